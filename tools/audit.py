@@ -1,14 +1,17 @@
 #!/usr/bin/env python3
 """Holds the pages against the source: README.md, the pages of docs/ and the notes of docs/requests/.
 
-A bare name in back quotes stands somewhere in the source: as a word of a .rt or .antt file, of the header, of the bindings or of a script, or as the name of a file, a folder or
-an edit. In back quotes `crate/specs/File` or `crate/proofs/File` names a file of definitions, statements or theorems, `crate/specs/File.name` one of them, `crate/edit` a file of that crate's must-fail/,
-`crate::function` a public function, or another item or a module of its source. In AUDIT.md's and README.md's tables the names in back quotes behind a file or
-a function stand in that file, or are public functions of that crate. A table that was measured says so in a line
+A bare name in back quotes stands somewhere in the source: as a word of a .rt or .antt file, of the header, of the bindings or of a script, or as the name
+of a file, a folder or an edit. In back quotes `crate/specs/File` or `crate/proofs/File` names a file of definitions, statements or theorems,
+`crate/specs/File.name` one of them, `crate/edit` a file of that crate's must-fail/, `crate::function` a public function, or another item or a module of
+its source. In AUDIT.md's and README.md's tables the names in back quotes behind a file or a function stand in that file, or are public functions of that
+crate. A table that was measured says so in a line
     Measured at COMMIT, KIT, MACHINE, DATE, of: CRATE ..
-and is older than the code once the source of one of these crates has changed since: a warning.
-The figures of AUDIT.md are counted anew: `--write` writes them.
-Prints each name that isn't found, each figure that is wrong and each measured line that is too old, and how many were looked up; ends with 1 if a name isn't found or a figure is wrong."""
+and is older than the code once the source of one of these crates has changed since: a warning. The figures of AUDIT.md are counted anew. And what the
+source has stands on the pages: each theorem in THEOREMS.md or CONTRACTS.md, each call of the rules (`..Call`) in CONTRACTS.md with an edit that it
+refuses, each file of definitions in RULES.md and in Lib, each exported function that dist/ lacks in CHANGELOG.md. `--write` writes figures, rows of
+theorems (their `///`), and names in Lib. Prints each name that isn't found, each that no page has, each figure that is wrong and each measured line that
+is too old; ends with 1 but for the last."""
 import functools
 import re
 import subprocess
@@ -113,16 +116,76 @@ def bare_lines(path):
     return sum(1 for line in text.splitlines() if line.strip() and not line.strip().startswith("--"))
 
 
+def definitions():
+    """The files of definitions: without cases, and without the lists that open all definitions for a computation."""
+    specs = (CRATES / "rules" / "specs").glob("*.antt")
+    return sorted(f for f in specs if not re.match(r"CasesOf|Examples|Lengths|Lib|Rules|Engine|Sheets$", f.stem))
+
+
+def theorems():
+    """Each function without parameters and with an empty body, whose contract is a theorem: its path, and its words."""
+    for f in sorted(CRATES.glob("*/src/**/*.rt")):
+        inside = [m for m in f.relative_to(CRATES).with_suffix("").parts if m not in ("src", "lib")]
+        text = f.read_text(encoding="utf-8")
+        for words, name in re.findall(r"((?:^///.*\n)*)^pub fn (\w+)(?:<[^>]*>)?\(\)\s*\n(?:\s+ensures[^\n]*\n)+\{\}", text, re.M):
+            yield "::".join((*inside, name)), " ".join(line.removeprefix("///").strip() for line in words.splitlines())
+
+
+def row(path, words):
+    """A theorem's row: its words without the names of lemmas."""
+    words = re.sub(r" \((?:`[\w-]+`(?:, )?)+\)", "", words).rstrip(".")
+    return f"| {words[:1].lower() + words[1:]} | `{path}` |\n"
+
+
+def unnamed(write):
+    """Theorems, calls, files of definitions and exported functions that no page has."""
+    page = {name: (ROOT / name).read_text(encoding="utf-8") for name in ("docs/THEOREMS.md", "docs/CONTRACTS.md", "docs/RULES.md", "CHANGELOG.md")}
+
+    def says(name, text):
+        return re.search(rf"\b{re.escape(name)}\b", page[text]) is not None
+
+    for path, words in theorems():
+        if says(path.split("::")[-1], "docs/THEOREMS.md") or says(path.split("::")[-1], "docs/CONTRACTS.md"):
+            continue
+        if write and words:
+            page["docs/THEOREMS.md"] += row(path, words)
+            (ROOT / "docs/THEOREMS.md").write_text(page["docs/THEOREMS.md"], encoding="utf-8")
+        else:
+            yield f"docs/THEOREMS.md: nothing of {path}" + (": tools/audit.py --write" if words else ", which has no ///")
+    for f in definitions():
+        if not says(f"rules/specs/{f.stem}", "docs/RULES.md"):
+            yield f"docs/RULES.md: nothing of rules/specs/{f.stem}"
+        for call in re.findall(r"^\s*(?:unfoldable |abbrev )?pub (\w+Call) :", f.read_text(encoding="utf-8"), re.M):
+            if not re.search(rf"^\| .*`{call}`.*`\w+/\w+`[^|]*\|$", page["docs/CONTRACTS.md"], re.M):
+                yield f"docs/CONTRACTS.md: no row for {call} (rules/specs/{f.stem}), with an edit that is refused"
+    for name in exported("include") - exported("dist/include"):
+        if not says(name, "CHANGELOG.md"):
+            yield f"CHANGELOG.md: nothing of {name}, which dist/ doesn't have"
+
+
+def exported(folder):
+    return set(re.findall(r"^uint32_t (shupkelen_\w+)\(", (ROOT / folder / "shupkelen.h").read_text(encoding="utf-8"), re.M))
+
+
+def listed(write):
+    """Files of specs/ that Lib doesn't name."""
+    for lib in sorted(CRATES.glob("*/specs/Lib.antt")):
+        text = lib.read_text(encoding="utf-8")
+        for stem in sorted({f.stem for f in lib.parent.glob("*.antt")} - {"Lib"} - set(re.findall(r"\bmod (\w+)", text))):
+            if write:
+                text += f"pub mod {stem}\n"
+                lib.write_text(text, encoding="utf-8")
+            else:
+                yield f"{lib.relative_to(ROOT)}: no {stem}: tools/audit.py --write"
+
+
 def counted():
     """What AUDIT.md says in figures, counted."""
-    specs = [f for f in (CRATES / "rules" / "specs").glob("*.antt")]
-    # cases, and the lists that open all definitions for a computation
-    told = [f for f in specs if not re.match(r"CasesOf|Examples|Lengths|Lib|Rules|Engine|Sheets$", f.stem)]
     code = "\n".join(f.read_text(encoding="utf-8") for f in sorted(CRATES.glob("*/src/**/*.rt")))
     return {
-        "lines of definitions": sum(map(bare_lines, told)),
+        "lines of definitions": sum(map(bare_lines, definitions())),
         "functions": len(re.findall(r"^\s*(?:pub(?:\(\w+\))? )?(?:const |unsafe )?(?:extern \"C\" )?fn \w+", code, re.M)),
-        "theorems": len(re.findall(r"pub fn \w+(?:<[^>]*>)?\(\)\s*\n(?:\s+ensures[^\n]*\n)+\{\}", code)),
+        "theorems": len(list(theorems())),
         "edits": len(list(CRATES.glob("*/must-fail/*.edit"))),
     }
 
@@ -143,7 +206,8 @@ def figures(write):
 
 
 def main():
-    wrong = list(figures("--write" in sys.argv))
+    write = "--write" in sys.argv
+    wrong = [*unnamed(write), *listed(write), *figures(write)]
     names = [s for page in PAGES for s in tables(page)]
     old = [s for page in PAGES for s in measured(page) if s is not None]
     missing = [s for s in names if s is not None]

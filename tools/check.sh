@@ -1,12 +1,11 @@
 #!/bin/sh
-# What the gate can't see. `sh tools/check.sh --pages`: the pages, the records, the declarations and the drawing, which need nothing built; without --pages the bindings too, over the
-# archive of SHUPKELEN_LIB, else a new one.
+# What the gate can't see. `sh tools/check.sh --pages`: the crates' rows and drawing, the calls by number, the declarations, the records and the pages, which need
+# nothing built and are only read; `--write`: each script writes what it can, and names what is left by hand. Without either the bindings too, over the archive of
+# SHUPKELEN_LIB, else a new one.
 cd "$(dirname "$0")/.." || exit 1
-set -e
-python3 tools/audit.py
-python3 tools/records.py
-python3 tools/header.py
-before=$(cksum <docs/house.svg)
-python3 tools/house.py >/dev/null
-[ "$before" = "$(cksum <docs/house.svg)" ] || { echo "docs/house.svg is drawn anew: the crates or docs/CRATES.md changed"; exit 1; }
-[ "$1" = --pages ] || sh bindings/test.sh
+status=0
+for script in house calls header records audit; do
+    python3 tools/$script.py $([ "$1" = --write ] && echo --write) || status=1
+done
+[ $status = 0 ] || exit 1
+[ "$1" ] || sh bindings/test.sh

@@ -3,9 +3,9 @@
 
 The one text is that of crates/shupkelen/src: of each exported function its `///`, its name and its parameters. `--write` makes of it what stands between the
 marks of include/shupkelen.h (comments and prototypes), of bindings/rust-sys (declarations) and of bindings/rust/src/raw.rs (the calls over slices); all else
-there is by hand. Without `--write` what stands there is compared. bindings/c/empty.c asks each call, or `--write` adds it. Compared too: that the refusals and
-sizes of the header and of the Rust crate are those of the crates rules and text, and that the version is that of the file VERSION. Prints what differs and ends
-with 1 if something does."""
+there is by hand. Without `--write` what stands there is compared. bindings/c/empty.c asks each call, or `--write` adds it. Compared too: that the Rust crate
+has a safe function for each call, that the refusals and sizes of the header and of the Rust crate are those of the crates rules and text, and that the version
+is that of the file VERSION. Prints what differs and ends with 1 if something does."""
 import re
 import sys
 import textwrap
@@ -29,6 +29,8 @@ NUMBERS = {"u32": "uint32_t ", "i32": "int32_t ", "usize": "size_t "}
 FLAGS = {"parameters"}
 # more parameters than these are too many for clippy
 MOST = 7
+# calls that the Rust crate has over slices alone
+ALONE = re.compile(r"version$|compare$|check_number$|lent$|exponent_|product_")
 
 
 def read(path):
@@ -157,6 +159,12 @@ def asked(ours, write):
             yield f"{path}: no {call}: python3 tools/header.py --write"
 
 
+def wrapped(ours):
+    """Calls that no safe function of the Rust crate makes."""
+    made = set(re.findall(r"\braw::(\w+)\(", read(f"{RUST}/lib.rs")))
+    yield from (f"{RUST}/lib.rs: no safe function over raw::{f.short}" for fs in ours.values() for f in fs if f.short not in made and not ALONE.match(f.short))
+
+
 def constants(text):
     """Constants of a Rust or Rattle source, and members of the header's enums."""
     return {name: int(n.replace("_", "")) for name, n in re.findall(r"\b([A-Z][A-Z_]*)(?:: usize)? = ([\d_]+)\b", text)}
@@ -211,7 +219,7 @@ def main():
     ours = {file: found[file] for _, file, _ in named if file in found}
     missing = [f"{HEADER}: no mark names {file}" for file in found.keys() - ours.keys()]
     write = "--write" in sys.argv[1:]
-    found = [*missing, *declarations(ours, write), *asked(ours, write), *numbers(), *versions()]
+    found = [*missing, *declarations(ours, write), *asked(ours, write), *wrapped(ours), *numbers(), *versions()]
     for line in found:
         print(line)
     print(f"declarations: {sum(map(len, ours.values()))} functions, {len(found)} differences")

@@ -1,9 +1,11 @@
 #!/usr/bin/env python3
 """Draws docs/house.svg: the modules of docs/CRATES.md as boxes with their crates, and an arrow from each module to those it uses by crates.txt.
 
-An arrow that follows from others is left out. Users stand above what they use; the theorems, on which some crates stand and which stand on others, have a wing on the right without arrows.
-It warns of each crate that crates.txt lists for another whose files don't cite it, and of each that is cited and not listed;
-with --edges it writes crates.txt anew, each crate with what its files cite and no more."""
+An arrow that follows from others is left out. Users stand above what they use; the theorems, on which some crates stand and which stand on others, have a
+wing on the right without arrows. Each crate has a line in crates.txt and a row in docs/CRATES.md. `--write` draws anew, and adds lines and rows that are
+missing: a line with the crates that the files cite, a row with the first sentence of src/lib.rt, behind those of its module. Without `--write` it ends
+with 1 where one is missing, or where the drawing is another one. It warns of each crate that crates.txt lists for another whose files don't cite it, and
+of each that is cited and not listed; with `--edges` it writes crates.txt anew, each crate with what its files cite and no more."""
 import re
 import sys
 from pathlib import Path
@@ -35,11 +37,13 @@ def without_followers(uses):
     return {c: [u for u in us if not any(u in all_below(v) for v in us if v != u)] for c, us in uses.items()}
 
 
-def edges(write):
-    """What each crate's files cite of the crates that stand before it, beside what crates.txt lists; the kit's own libraries stay as listed."""
+def edges(write, add):
+    """What each crate's files cite of the others, beside what crates.txt lists; the kit's own libraries stay as listed. Says which crates have no line."""
     path = ROOT / "crates.txt"
     lines = [l for l in path.read_text(encoding="utf-8").splitlines() if ":" in l.split("#")[0]]
     listed = {l.split(":")[0].split()[0]: (l.split(":")[0], l.split(":")[1].split()) for l in lines}
+    new = sorted({p.parent.name for p in (ROOT / "crates").glob("*/src")} - listed.keys())
+    listed.update({c: (c, []) for c in new if add})
     text = {c: "" for c in listed}
     for c in listed:
         for f in (ROOT / "crates" / c).rglob("*"):
@@ -52,13 +56,34 @@ def edges(write):
     for c, (head, uses) in listed.items():
         idle = [d for d in uses if d in listed and d not in cited[c]]
         asked = [d for d in listed if d != c and d not in uses and d not in own[c] and d in used_by[c]]
-        if write:
+        if write or c in new:
             listed[c] = (head, [d for d in uses if d not in idle] + asked)
         else:
             print(*[f"warning: {c} lists {d} and cites nothing of it" for d in idle], sep="\n", end="\n" if idle else "")
             print(*[f"warning: {c} cites {d} and does not list it" for d in asked], sep="\n", end="\n" if asked else "")
-    if write:
+    if write or add and new:
         path.write_text("".join(head + ":" + "".join(" " + d for d in uses) + "\n" for head, uses in listed.values()), encoding="utf-8")
+    return [] if add else [f"crates.txt: no line for {c}" for c in new]
+
+
+def described(crate):
+    """The first sentence of a crate's source, as a row has it."""
+    path = ROOT / "crates" / crate / "src" / "lib.rt"
+    words = " ".join(re.findall(r"^//! ?(.*)", path.read_text(encoding="utf-8") if path.exists() else "", re.M))
+    sentence = re.split(r"\.(?: |$)", words)[0]
+    return sentence[:1].lower() + sentence[1:]
+
+
+def rows(crates, add):
+    """Crates without a row in docs/CRATES.md; a row that is added stands behind the last one of the crate's module."""
+    path = ROOT / "docs" / "CRATES.md"
+    for c in [c for c in crates if c not in groups()]:
+        text = path.read_text(encoding="utf-8")
+        beside = re.findall(rf"^\| `{c.split('_')[0]}(?:_\w+)?`.*\n", text, re.M)
+        if add and beside and described(c):
+            path.write_text(text.replace(beside[-1], f"{beside[-1]}| `{c}` | {described(c)} |\n"), encoding="utf-8")
+        else:
+            yield f"docs/CRATES.md: no row for {c}" + ("" if beside else ", whose module has none: by hand") + ("" if described(c) else f": crates/{c}/src/lib.rt begins with no //!")
 
 
 def groups():
@@ -128,8 +153,8 @@ def box(module, crates, x, y):
         yield f'<text x="{x + 10:.0f}" y="{at:.0f}">{c}{" (the crate to believe)" if c == MARKED else ""}</text>'
 
 
-def main():
-    edges("--edges" in sys.argv[1:])
+def drawn():
+    """The drawing, and what there is in it."""
     uses, group = used(), groups()
     inside, between = modules(uses, group)
     place = places(inside, between, layers(between))
@@ -146,10 +171,24 @@ def main():
             out.append(f'<path d="M{a:.0f},{b:.0f} C{a:.0f},{b + 25:.0f} {d:.0f},{e - 25:.0f} {d:.0f},{e:.0f}" fill="none" stroke="#999" marker-end="url(#a)"/>')
     for m, (x, y) in place.items():
         out += box(m, inside[m], x, y)
-    (ROOT / "docs" / "house.svg").write_text("\n".join(out + ["</svg>", ""]), encoding="utf-8")
-    lost = [c for c in uses if c not in group]
-    print(f"{len(uses)} crates, {len(inside)} modules, {sum(map(len, between.values()))} arrows" + (f"; not in docs/CRATES.md: {', '.join(lost)}" if lost else ""))
+    return "\n".join(out + ["</svg>", ""]), f"{len(uses)} crates, {len(inside)} modules, {sum(map(len, between.values()))} arrows"
+
+
+def main():
+    write = "--write" in sys.argv[1:]
+    found = edges("--edges" in sys.argv[1:], write)
+    found += rows(used(), write)
+    drawing, what = drawn()
+    path = ROOT / "docs" / "house.svg"
+    if write:
+        path.write_text(drawing, encoding="utf-8")
+    elif path.read_text(encoding="utf-8") != drawing:
+        found.append("docs/house.svg: crates.txt or docs/CRATES.md has changed")
+    for line in found:
+        print(f"{line}: python3 tools/house.py --write" if "by hand" not in line and "//!" not in line else line)
+    print(f"{what}, {len(found)} failures")
+    return 1 if found else 0
 
 
 if __name__ == "__main__":
-    main()
+    sys.exit(main())

@@ -1,0 +1,175 @@
+#!/usr/bin/env python3
+"""Carries a public call into the places that repeat its name or its number, and names each place that lacks one. It needs nothing built.
+
+By hand are two places: a variant at the end of `Call` (crates/calls_defined/src/numbers.rt), whose words are `/// Takes a the set. Says ..`, and its line
+of `dispatch` (crates/calls_defined/specs/Dispatch.antt). `--write` adds what follows from them: its number, in numbers.rt and specs/Numbers; the arm of
+`called` and its answer, where the line has a form that others have; whether it takes the work buffer (crates/calls_run); its row of docs/SERVE.md, from
+its words. A row of a call without words stays by hand. Without `--write` each place is looked at, and that crates/calls_run/stdin has a case of each call.
+Prints what is missing and ends with 1 if something is."""
+import re
+import sys
+from pathlib import Path
+
+ROOT = Path(__file__).resolve().parent.parent
+CRATES = ROOT / "crates"
+NUMBERS = CRATES / "calls_defined/src/numbers.rt"
+DISPATCH = CRATES / "calls_defined/specs/Dispatch.antt"
+SERVE = ROOT / "docs/SERVE.md"
+WRITE = "--write" in sys.argv[1:]
+# what a line of `dispatch` tells an answer by: the function that does so in code, and the lemma that the arm's answer cites
+TOLD = {
+    "solution": ("solution", "solves"),
+    "written": ("written", "writes"),
+    "askedAs": ("asked", "told askedAs"),
+    "checkedAs": ("checked", "told checkedAs"),
+    "ceilingAs": ("limited", "told ceilingAs"),
+}
+
+
+def read(path):
+    return path.read_text(encoding="utf-8")
+
+
+class Call:
+    def __init__(self, number, words, name):
+        self.number, self.name = number, name
+        self.words = " ".join(line.strip().removeprefix("///").strip() for line in words.splitlines())
+        self.comes_to = re.search(rf"^  dispatch {name} = (.*)$", read(DISPATCH), re.M)
+        told = self.comes_to and re.fullmatch(r"(?:does|says) \((\w+) \((\w+) ([\w ]+)\)\)", self.comes_to.group(1))
+        self.told, self.definition, self.lent = told.groups() if told and told.group(1) in TOLD else (None, None, "")
+
+    def function(self):
+        """The crate and the name of the public function that equals its definition."""
+        for path in sorted(CRATES.glob("*/src/**/*.rt")):
+            found = re.search(rf"^pub fn (\w+)\([^{{]*ensures[^\n]*\b{self.definition}\b", read(path), re.M) if self.definition else None
+            if found and path.parts[len(CRATES.parts)] != "shupkelen":
+                return path.parts[len(CRATES.parts)], found.group(1)
+        return None
+
+    def arm(self):
+        if self.function() is None:
+            return None
+        lent = ", ".join("res" if name == "result" else name for name in self.lent.split())
+        return f"        Call::{self.name} => {TOLD[self.told][0]}({self.function()[1]}({lent})),\n"
+
+    def imported(self, text):
+        """The source with an import of its function."""
+        line = "use {}::{};\n".format(*self.function())
+        return text if line in text else re.sub(r"(?:^use .*\n)+", lambda found: found.group() + line, text, count=1, flags=re.M)
+
+    def answer(self, text):
+        """What proves the arm: a function that the others cite, too, is cited by the name of the arm."""
+        if self.function() is None:
+            return None
+        code, lemma = TOLD[self.told]
+        own = f"-in-{self.name}" if f"c.{code}.ensures" in text else ""
+        goal = f"returns-in-{self.name}"
+        return (
+            f"\npub {goal} : goal.{goal}\nunfolding dispatch\n"
+            f"{goal} c = rw c.in-{self.name}.is ({lemma} c.{code}{own}.ensures c.{self.function()[1]}.ensures)\n"
+        )
+
+    def row(self):
+        """Its row of docs/SERVE.md, where it has words for one."""
+        said = re.fullmatch(r"(?:Takes (.*?)\.)? ?(?:Says (.*)\.)?", self.words)
+        if not self.words or said is None:
+            return None
+        name = re.sub(r"(?<=[a-z])(?=[A-Z])", "_", self.name).lower()
+        return f"| {self.number} `{name}` | {said.group(1) or ''} | {said.group(2) or ''} |\n".replace("|  |", "| |").replace("|  |", "| |")
+
+
+def calls():
+    body = re.search(r"pub enum Call \{\n(.*?)\n\}", read(NUMBERS), re.S).group(1)
+    return [Call(n, *part) for n, part in enumerate(re.findall(r"((?:^ +///.*\n)*)^ +(\w+),$", body, re.M), 1)]
+
+
+def places(before, call):
+    """Where a call has to stand: the files, one of which has it; what is found there; behind what it is added; what is added, or None where that is by hand."""
+    last, name, n = before.name, call.name, call.number
+    defined = CRATES / "calls_defined/specs"
+    takes_work = "true" if "work" in call.lent.split() else "false"
+    yield [NUMBERS], rf"{n} => Some\(Call::{name}\)", rf" +{n - 1} => Some\(Call::{last}\),\n", lambda _: f"            {n} => Some(Call::{name}),\n"
+    yield [defined / "Numbers.antt"], rf"^  {name},$", rf"  {last},\n", lambda _: f"  {name},\n"
+    yield [defined / "Numbers.antt"], rf"\({n}, {name}\)", rf" +∷ \({n - 1}, {last}\)\n", lambda _: f"    ∷ ({n}, {name})\n"
+    yield [DISPATCH], rf"^  {name},$", rf"  {last},\n", lambda _: f"  {name},\n"
+    yield [DISPATCH], rf"^  dispatch {name} = ", None, None
+    yield sorted((CRATES / "calls/src").rglob("*.rt")), rf"Call::{name}\b", rf" +Call::{last} => .*\n", lambda _: call.arm()
+    answers = sorted((CRATES / "calls/proofs").rglob("Answers.antt"))
+    yield answers, rf"returns-in-{name}\b", rf"^returns-in-{last} c = .*\n", call.answer
+    program = [CRATES / "calls_run/src/main.rt"]
+    yield program, rf"Call::{name}\b", r" +Call::[^\n]* => false,\n(?!.* => false)", lambda _: f"        Call::{name} => {takes_work},\n" if call.told else None
+
+
+def missing(before, call):
+    """The places that lack a call, after what can be written was."""
+    for paths, there, behind, added in places(before, call):
+        texts = {path: read(path) for path in paths}
+        if any(re.search(there, text, re.M) for text in texts.values()):
+            continue
+        path = next((p for p, text in texts.items() if behind and re.search(behind, text, re.M)), paths[0])
+        line = added(texts[path]) if added and behind and re.search(behind, texts[path], re.M) else None
+        if line is None:
+            yield f"{path.relative_to(ROOT)}: no {call.name} ({there}), which is by hand"
+        elif WRITE:
+            text = re.sub(behind, lambda found: found.group() + line, texts[path], count=1, flags=re.M)
+            path.write_text(call.imported(text) if line == call.arm() else text, encoding="utf-8")
+        else:
+            yield f"{path.relative_to(ROOT)}: no {call.name}: python3 tools/calls.py --write"
+
+
+def numbers_of(cell):
+    """The numbers that the first cell of a row has: `5 to 8 ..`, `21 .., 22 ..`."""
+    ends = re.findall(r"(\d+)(?: to (\d+))?", re.sub(r"`[^`]*`", "", cell))
+    return {n for first, last in ends for n in range(int(first), int(last or first) + 1)}
+
+
+def served(all_calls):
+    """Calls without a row in docs/SERVE.md, and rows that say something else than the call's words."""
+    head, table = read(SERVE).split("## Calls\n")
+    rows = re.findall(r"^\| (\d[^|]*) \|.*\n", table, re.M)
+    there = {n for cell in rows for n in numbers_of(cell)}
+    last = re.findall(r"^\| \d.*\n", table, re.M)[-1]
+    for call in all_calls:
+        row = call.row()
+        if call.number in there and (row is None or row in table):
+            continue
+        if WRITE and row is not None:
+            old = re.search(rf"^\| {call.number} `.*\n", table, re.M)
+            table = table.replace(old.group(), row) if old else table.replace(last, last + row)
+            last = row if old is None else last
+        else:
+            how = "or another: python3 tools/calls.py --write" if row else "which has no words (Takes .. Says ..) in numbers.rt"
+            yield f"docs/SERVE.md: no row for {call.number}, {call.name}, {how}"
+    if WRITE:
+        SERVE.write_text(head + "## Calls\n" + table, encoding="utf-8")
+
+
+def counted(all_calls):
+    """How many calls there are, where that is said."""
+    for path, said in ((NUMBERS, r"(has a number: 1 to )\d+"), (SERVE, r"(number of the call, 1 to )\d+")):
+        text = read(path)
+        right = re.sub(said, rf"\g<1>{len(all_calls)}", text)
+        if WRITE:
+            path.write_text(right, encoding="utf-8")
+        elif text != right:
+            yield f"{path.relative_to(ROOT)}: there are {len(all_calls)} calls: python3 tools/calls.py --write"
+
+
+def stored(all_calls):
+    """Calls of which no case is stored."""
+    cases = read(CRATES / "calls_run/stdin")
+    yield from (f"crates/calls_run/stdin: no case of {c.number}, {c.name}: compare/README.md" for c in all_calls if f"\nasks {c.number} " not in cases)
+
+
+def main():
+    all_calls = calls()
+    found = [line for before, call in zip(all_calls, all_calls[1:]) for line in missing(before, call)]
+    found += [*served(all_calls), *counted(all_calls), *stored(all_calls)]
+    for line in found:
+        print(line)
+    print(f"calls: {len(all_calls)} by number, {len(found)} places without one")
+    return 1 if found else 0
+
+
+if __name__ == "__main__":
+    sys.exit(main())
