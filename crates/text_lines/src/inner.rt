@@ -78,15 +78,8 @@ fn enter_typed(
         result.at (lent pool.new table.new dst.new result.stand) }
 {
     let q = next_sign(line, from.at);
-    let now = count(1, place_of(q), from.stand);
-    let l = enter_type(
-        line,
-        Reached { at: q, stand: now },
-        NESTED,
-        pool,
-        table,
-        dst,
-    );
+    let stand = count(1, place_of(q), from.stand);
+    let l = enter_type(line, Reached { at: q, stand }, NESTED, pool, table, dst);
     let stand = l.stand;
     let e = next_sign(line, l.at);
     let b = byte_at(line, e);
@@ -125,17 +118,10 @@ fn enter_has_field(
         result.at (lent pool.new table.new dst.new result.stand) }
 {
     let q = next_sign(line, from.at);
-    let now = count(1, place_of(q), from.stand);
+    let stand = count(1, place_of(q), from.stand);
     let a = sign(line, q, b"HasField");
     let b = mark(line, a, b'(');
-    let l = enter_type(
-        line,
-        Reached { at: b, stand: now },
-        NESTED,
-        pool,
-        table,
-        dst,
-    );
+    let l = enter_type(line, Reached { at: b, stand }, NESTED, pool, table, dst);
     let d = mark(line, l.at, b',');
     let e = mark(line, d, b'"');
     let s = l.stand;

@@ -37,11 +37,8 @@ fn read_lines(
                 constraints += line.constraints;
             }
             Err(stop) => {
-                return Err(NotRead {
-                    why: stop.why,
-                    line: lines + 1,
-                    column: stop.at + 1,
-                });
+                let (why, line, column) = (stop.why, lines + 1, stop.at + 1);
+                return Err(NotRead { why, line, column });
             }
         }
         if end == text.len() {

@@ -9,7 +9,7 @@ use Rattle.text_lines.proofs.inner.enter_has_field.Goals as goal
 pub enter_type-l-requires : goal.enter_type-l-requires
 enter_type-l-requires c =
     ready_on (inside-spelled _) c.mark-b.ensures.reads
-    (ready_on (inside-spelled _) c.sign-a.ensures (ready_on inside-column c.next_sign-q.ensures (ready-count 1 _ c.requires c.count-now.ensures)))
+    (ready_on (inside-spelled _) c.sign-a.ensures (ready_on inside-column c.next_sign-q.ensures (ready-count 1 _ c.requires c.count-stand.ensures)))
 
 pub read_named-x-requires : goal.read_named-x-requires
 read_named-x-requires c =
@@ -28,12 +28,12 @@ enter_type-t-requires c =
 pub put_head-requires : goal.put_head-requires
 put_head-requires c =
     kept_above
-    (kept_then (kept-count 1 _ c.requires c.count-now.ensures _) (kept_then c.enter_type-l.ensures.kept
+    (kept_then (kept-count 1 _ c.requires c.count-stand.ensures _) (kept_then c.enter_type-l.ensures.kept
     (kept_then (c.read_named-x.ensures _).kept c.enter_type-t.ensures.kept)))
 
 pub returns : goal.returns
 returns c =
     hasfield-done c.requires c.next_sign-q.ensures c.sign-a.ensures c.mark-b.ensures.reads
-    (from-counted c.next_sign-q.result c.args.from.stand c.place_of.ensures c.count-now.ensures c.enter_type-l.ensures)
+    (from-counted c.next_sign-q.result c.args.from.stand c.place_of.ensures c.count-stand.ensures c.enter_type-l.ensures)
     c.mark-d.ensures.reads c.mark-e.ensures.reads (c.read_named-x.ensures _) c.quote-g.ensures
     c.mark-at.ensures.reads c.enter_type-t.ensures c.mark-end.ensures.reads _ c.put_head.ensures

@@ -8,7 +8,7 @@ use Rattle.text_lines.proofs.inner.enter_typed.Goals as goal
 
 pub enter_type-l-requires : goal.enter_type-l-requires
 enter_type-l-requires c =
-    ready_on inside-column c.next_sign-q.ensures (ready-count 1 _ c.requires c.count-now.ensures)
+    ready_on inside-column c.next_sign-q.ensures (ready-count 1 _ c.requires c.count-stand.ensures)
 
 pub enter_type-t-requires : goal.enter_type-t-requires
 enter_type-t-requires c =
@@ -18,36 +18,36 @@ enter_type-t-requires c =
 pub put_head-requires : goal.put_head-requires
 put_head-requires c =
     kept_above
-    (kept_then (kept-count 1 _ c.requires c.count-now.ensures _) (kept_then c.enter_type-l.ensures.kept c.enter_type-t.ensures.kept))
+    (kept_then (kept-count 1 _ c.requires c.count-stand.ensures _) (kept_then c.enter_type-l.ensures.kept c.enter_type-t.ensures.kept))
 
 pub returns-then-b-eq126 : goal.returns-then-b-eq126
 returns-then-b-eq126 c =
     equal-done c.requires c.next_sign-q.ensures
-    (from-counted c.next_sign-q.result c.args.from.stand c.place_of.ensures c.count-now.ensures c.enter_type-l.ensures)
+    (from-counted c.next_sign-q.result c.args.from.stand c.place_of.ensures c.count-stand.ensures c.enter_type-l.ensures)
     c.next_sign-e.ensures (sym c.byte_at-b.ensures ∙ c.if-b-eq126.true) c.mark-at.ensures.reads
     c.enter_type-t.ensures _ c.put_head.ensures
 
 pub put_head-requires-then-b-eq58 : goal.put_head-requires-then-b-eq58
 put_head-requires-then-b-eq58 c =
-    kept_above (kept_then (kept-count 1 _ c.requires c.count-now.ensures _) c.enter_type-l.ensures.kept)
+    kept_above (kept_then (kept-count 1 _ c.requires c.count-stand.ensures _) c.enter_type-l.ensures.kept)
 
 pub returns-then-b-eq58 : goal.returns-then-b-eq58
 returns-then-b-eq58 c =
     dim-done c.requires c.next_sign-q.ensures
-    (from-counted c.next_sign-q.result c.args.from.stand c.place_of.ensures c.count-now.ensures c.enter_type-l.ensures)
+    (from-counted c.next_sign-q.result c.args.from.stand c.place_of.ensures c.count-stand.ensures c.enter_type-l.ensures)
     c.next_sign-e.ensures (sym c.byte_at-b.ensures ∙ c.if-b-eq58.true) c.mark-m.ensures.reads
     c.sign-at.ensures _ c.put_head-then-b-eq58.ensures
 
 pub put_head-requires-then-says_scalar : goal.put_head-requires-then-says_scalar
 put_head-requires-then-says_scalar c =
-    kept_above (kept_then (kept-count 1 _ c.requires c.count-now.ensures _) c.enter_type-l.ensures.kept)
+    kept_above (kept_then (kept-count 1 _ c.requires c.count-stand.ensures _) c.enter_type-l.ensures.kept)
 
 pub returns-then-says_scalar : goal.returns-then-says_scalar
 returns-then-says_scalar c =
     let says = subst (SaysScalar c.args.line.now c.next_sign-q.result c.byte_at-b.result) c.if-says_scalar.true
     c.says_scalar.ensures in
     scalar-done c.requires c.next_sign-q.ensures
-    (from-counted c.next_sign-q.result c.args.from.stand c.place_of.ensures c.count-now.ensures c.enter_type-l.ensures)
+    (from-counted c.next_sign-q.result c.args.from.stand c.place_of.ensures c.count-stand.ensures c.enter_type-l.ensures)
     c.next_sign-e.ensures (sym c.byte_at-b.ensures ∙ says.0) says.1 c.mark-m-then-says_scalar.ensures.reads
     c.sign-at-then-says_scalar.ensures _ c.put_head-then-says_scalar.ensures
 
@@ -55,7 +55,7 @@ pub returns : goal.returns
 returns c =
     rw c.refuse-at.ensures
     (none_done c.requires c.next_sign-q.ensures
-    (from-counted c.next_sign-q.result c.args.from.stand c.place_of.ensures c.count-now.ensures c.enter_type-l.ensures)
+    (from-counted c.next_sign-q.result c.args.from.stand c.place_of.ensures c.count-stand.ensures c.enter_type-l.ensures)
     c.next_sign-e.ensures (λ e. c.if-b-eq126.false (c.byte_at-b.ensures ∙ e))
     (λ e. c.if-b-eq58.false (c.byte_at-b.ensures ∙ e))
     (λ e. subst (SaysScalar c.args.line.now c.next_sign-q.result c.byte_at-b.result) c.if-says_scalar.false c.says_scalar.ensures (c.byte_at-b.ensures ∙ e)))

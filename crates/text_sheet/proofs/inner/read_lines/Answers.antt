@@ -20,13 +20,13 @@ overflow_add-constraints c =
     let z = c.in-Ok.ensures in
     omega (arith, counts c.loop-line.invariant c.line_end-end.ensures z)
 
-pub overflow_add-result : goal.overflow_add-result
-overflow_add-result c =
+pub overflow_add-line : goal.overflow_add-line
+overflow_add-line c =
     let z = c.in-Err.ensures in
     omega (arith, c.loop-line.invariant.upto.few, c.loop-line.invariant.upto.within)
 
-pub overflow_add-result-in-Err : goal.overflow_add-result-in-Err
-overflow_add-result-in-Err c =
+pub overflow_add-column : goal.overflow_add-column
+overflow_add-column c =
     let z = c.in-Err.ensures in
     omega (arith, place_in c.loop-line.invariant c.line_end-end.ensures z)
 
