@@ -19,7 +19,7 @@ KINDS = ['small', 'rich', 'structs', 'wide', 'shared', 'limits', 'damaged', 'nam
 SHARE = {'lengths': 30, 'small': 400, 'rich': 250, 'structs': 130, 'wide': 120, 'shared': 50, 'limits': 1, 'damaged': 29, 'names': 20}
 # calls that are there: bit n is call n
 LAST = requests.LAST
-CALLS = sum(1 << n for n in range(1, LAST + 1) if n != 31)    # the harness has no calculation lines: lines.py has its own
+CALLS = sum(1 << n for n in range(1, requests.KNOWN + 1) if n != 31)    # those that the harness has; the others have own.py
 NUMBER = {'params': 1, 'args': 2, 'dups': 3, 'inst': 5, 'isdim': 7, 'shared': 11, 'big': 12}
 
 

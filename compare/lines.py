@@ -1,12 +1,12 @@
 #!/usr/bin/env python3
-"""Calculation lines (W-211) once more: what the steps issue, and the answer, over the solver and the judge of model.py. It makes the line cases of calls_run:
-lines.py SERVE crates/calls_run/stdin puts them behind the others, in place of those of before. SERVE is the program `serve`; a case is stored only if it answers what is said
-here, and leaves the buffers so. lines.py SERVE random COUNT SEED compares random lines, some with open references."""
-import os, random, subprocess, sys
+"""Calculation lines (W-211) once more: what the steps issue, and the answer, over the solver and the judge of model.py. own.py makes the line cases of
+calls_run from `cases`. lines.py SERVE COUNT SEED compares random lines, some with open references; SERVE is the program `serve`."""
+import os, random, sys
 from fractions import Fraction as F
 HERE = os.path.dirname(os.path.abspath(__file__))
 sys.path.insert(0, HERE)
-import make_cases, model, requests
+import model, requests
+ABOUT = 'a line'
 STEP = {'+': 3, '-': 4, '*': 5, '/': 6, '?': 8, 'if': 9}
 KM, H, EUR, ONE = '(dim (b km 1 1))', '(dim (b h 1 1))', '(dim (b eur 1 1))', '(dim)'
 PAYEE = '(struct Payee () ((iban (str))))'
@@ -176,42 +176,20 @@ def random_line(r):
     return Line(' '.join(out), known, lent)
 
 
-def told(serve, asked):
-    return requests.replies(subprocess.run([serve], input=b''.join(q.bytes() for _, _, q, _, _ in asked), stdout=subprocess.PIPE).stdout)
-
-
-def compared(serve, cases):
-    """each case with its request and its answer, once that is as said here"""
-    asked = [(why, line, *line.request(), known) for why, line, known in cases]
-    out, seen = [], {}
-    replies = told(serve, asked)
-    if len(replies) != len(asked):
-        sys.exit('%d answers to %d requests' % (len(replies), len(asked)))
-    for (why, line, q, w, known), r in zip(asked, replies):
+def answered(cases):
+    """each case with its request, its names, and what is to be said"""
+    for why, line, known in cases:
+        q, w = line.request()
         want = line.expected() if known is None else known
-        ws = requests.measured(w.type(want)) if isinstance(want, tuple) else []
-        gives = (want if isinstance(want, int) else 0, len(ws) // 4, 0, 0)
-        flags = 1 | (4 if gives[0] == 10 else 2)
-        if r[:4] != gives or r[5] != ws or r[4] & flags != flags:
-            sys.exit('not as said: %s: %r, but %r; lists %r' % (why, r, (gives, ws), q.sent()))
-        seen[gives[0]] = seen.get(gives[0], 0) + 1
-        out.append((why, q, w, r))
-    sys.stderr.write('%d lines, by their refusals: %s\n' % (len(out), sorted(seen.items())))
-    return out
+        words = requests.measured(w.type(want)) if isinstance(want, tuple) else []
+        yield why, q, w.names, (want if isinstance(want, int) else 0, len(words) // 4, 0, 0), words
 
 
-def main():
-    serve, place = sys.argv[1:3]
-    if place == 'random':
-        r = random.Random(int(sys.argv[4]))
-        compared(serve, [('random', random_line(r), None) for _ in range(int(sys.argv[3]))])
-        return
-    out = [make_cases.lines('paper: a line: ' + why, q, w.names, r) for why, q, w, r in compared(serve, said())]
-    with open(place) as f:
-        others = f.read().split('# paper: a line: ')[0].rstrip('\n') + '\n'
-    with open(place, 'w') as f:
-        f.write(make_cases.in_blocks(out, others))
+def cases():
+    return answered(said())
 
 
 if __name__ == '__main__':
-    main()
+    import own
+    r = random.Random(int(sys.argv[3]))
+    own.compared(sys.argv[1], answered(('random', random_line(r), None) for _ in range(int(sys.argv[2]))))

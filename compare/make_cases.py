@@ -56,8 +56,9 @@ def lines(comment, q, names, r):
     return '\n'.join(out) + '\n'
 
 
-def in_blocks(cases, text=''):
-    """empty lines fill blocks up, so that no case lies across the end of one, for readers that take blocks. These come behind the text"""
+def in_blocks(cases):
+    """empty lines fill blocks up, so that no case lies across the end of one, for readers that take blocks"""
+    text = ''
     for c in cases:
         left = BLOCK - len(text) % BLOCK
         if left < len(c) + 1:
