@@ -4,8 +4,8 @@
 An arrow that follows from others is left out. Users stand above what they use; the theorems, on which some crates stand and which stand on others, have a
 wing on the right without arrows. Each crate has a line in crates.txt and a row in docs/CRATES.md. `--write` draws anew, and adds lines and rows that are
 missing: a line with the crates that the files cite, a row with the first sentence of src/lib.rt, behind those of its module. Without `--write` it ends
-with 1 where one is missing, or where the drawing is another one. It warns of each crate that crates.txt lists for another whose files don't cite it, and
-of each that is cited and not listed; with `--edges` it writes crates.txt anew, each crate with what its files cite and no more."""
+with 1 where one is missing, where a crate is cited and not listed, or where the drawing is another one. It warns of each crate that crates.txt lists for
+another whose files don't cite it; with `--edges` it writes crates.txt anew, each crate with what its files cite and no more."""
 import re
 import sys
 from pathlib import Path
@@ -38,12 +38,13 @@ def without_followers(uses):
 
 
 def edges(write, add):
-    """What each crate's files cite of the others, beside what crates.txt lists; the kit's own libraries stay as listed. Says which crates have no line."""
+    """What each crate's files cite of the others, beside what crates.txt lists; the kit's own libraries stay as listed. Names what is missing."""
     path = ROOT / "crates.txt"
     lines = [l for l in path.read_text(encoding="utf-8").splitlines() if ":" in l.split("#")[0]]
     listed = {l.split(":")[0].split()[0]: (l.split(":")[0], l.split(":")[1].split()) for l in lines}
     new = sorted({p.parent.name for p in (ROOT / "crates").glob("*/src")} - listed.keys())
-    listed.update({c: (c, []) for c in new if add})
+    listed.update({c: (c, []) for c in new if write or add})
+    missing = [f"crates.txt: no line for {c}" for c in new]
     text = {c: "" for c in listed}
     for c in listed:
         for f in (ROOT / "crates" / c).rglob("*"):
@@ -56,14 +57,13 @@ def edges(write, add):
     for c, (head, uses) in listed.items():
         idle = [d for d in uses if d in listed and d not in cited[c]]
         asked = [d for d in listed if d != c and d not in uses and d not in own[c] and d in used_by[c]]
-        if write or c in new:
-            listed[c] = (head, [d for d in uses if d not in idle] + asked)
-        else:
-            print(*[f"warning: {c} lists {d} and cites nothing of it" for d in idle], sep="\n", end="\n" if idle else "")
-            print(*[f"warning: {c} cites {d} and does not list it" for d in asked], sep="\n", end="\n" if asked else "")
-    if write or add and new:
+        missing += [f"crates.txt: {c} cites {d} and doesn't list it" for d in asked]
+        if write or add:
+            listed[c] = (head, [d for d in uses if d not in idle or not write] + asked)
+        print(*[f"warning: {c} lists {d} and cites nothing of it" for d in idle if not write], sep="\n", end="\n" if idle and not write else "")
+    if write or add and missing:
         path.write_text("".join(head + ":" + "".join(" " + d for d in uses) + "\n" for head, uses in listed.values()), encoding="utf-8")
-    return [] if add else [f"crates.txt: no line for {c}" for c in new]
+    return [] if write or add else missing
 
 
 def described(crate):
