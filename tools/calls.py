@@ -4,8 +4,8 @@
 By hand are two places: a variant at the end of `Call` (crates/calls_defined/src/numbers.rt), whose words are `/// Takes a the set. Says ..`, and its line
 of `dispatch` (crates/calls_defined/specs/Dispatch.antt). `--write` adds what follows from them: its number, in numbers.rt and specs/Numbers; the arm of
 `called` and its answer, where the line has a form that others have; whether it takes the work buffer (crates/calls_run); its row of docs/SERVE.md, from
-its words. A row of a call without words stays by hand. Without `--write` each place is looked at, and that crates/calls_run/stdin has a case of each call.
-Prints what is missing and ends with 1 if something is."""
+its words. A row of a call without words stays by hand. Without `--write` each place is looked at, and that crates/calls_run/stdin has a case of each call
+and crates/shupkelen a function. Prints what is missing and ends with 1 if something is."""
 import re
 import sys
 from pathlib import Path
@@ -16,6 +16,8 @@ NUMBERS = CRATES / "calls_defined/src/numbers.rt"
 DISPATCH = CRATES / "calls_defined/specs/Dispatch.antt"
 SERVE = ROOT / "docs/SERVE.md"
 WRITE = "--write" in sys.argv[1:]
+# calls that the library doesn't export: which lines conflict is asked of an edition's sheets alone
+ALONE = {"conflictCall"}
 # what a line of `dispatch` tells an answer by: the function that does so in code, and the lemma that the arm's answer cites
 TOLD = {
     "solution": ("solution", "solves"),
@@ -161,10 +163,22 @@ def stored(all_calls):
     yield from (f"crates/calls_run/stdin: no case of {c.number}, {c.name}: compare/README.md" for c in all_calls if f"\nasks {c.number} " not in cases)
 
 
+def elsewhere(all_calls):
+    """Lines of `dispatch` without a variant, and calls of the rules that the library doesn't export."""
+    names = {c.name for c in all_calls}
+    lines = re.findall(r"^  dispatch (\w+) = ", read(DISPATCH), re.M)
+    yield from (f"crates/calls_defined/src/numbers.rt: no variant {name}, which dispatch has" for name in lines if name not in names)
+    library = "".join(read(path) for path in (CRATES / "shupkelen/src").rglob("*.rt"))
+    for path in sorted((CRATES / "rules/specs").glob("*.antt")):
+        for call in re.findall(r"^\s*(?:unfoldable |abbrev )?pub (\w+Call) :", read(path), re.M):
+            if call not in ALONE and not re.search(rf"\({call} ", library):
+                yield f"crates/shupkelen/src: no exported function equals {call} (rules/specs/{path.stem})"
+
+
 def main():
     all_calls = calls()
     found = [line for before, call in zip(all_calls, all_calls[1:]) for line in missing(before, call)]
-    found += [*served(all_calls), *counted(all_calls), *stored(all_calls)]
+    found += [*served(all_calls), *counted(all_calls), *stored(all_calls), *elsewhere(all_calls)]
     for line in found:
         print(line)
     print(f"calls: {len(all_calls)} by number, {len(found)} places without one")
