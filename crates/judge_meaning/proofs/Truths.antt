@@ -14,9 +14,11 @@ use Rattle.queries.specs.declared.name_set.NameSet.{NameSet}
 use Rattle.queries.specs.Marks.{Has, Small, Within}
 use Rattle.queries.specs.MarkLaws.{any-in, in-every, chosen-below}
 use Rattle.queries.specs.declared.Kind.TheVariants.{Both}
-use Rattle.types.specs.Shapes.{whole}
+use Rattle.types.specs.Shapes.{whole, Begins}
 use Rattle.types.specs.declared.Fields as fields
 use Rattle.types.specs.declared.Product as types
+use Rattle.types.specs.declared.Head.{Head}
+use Rattle.types.specs.declared.Head.TheVariants as head
 use Rattle.types.specs.declared.Shape.{Shape}
 use Rattle.types.specs.declared.Shape.TheVariants as shape
 use Rattle.types.specs.declared.Types as lists
@@ -66,19 +68,18 @@ module _ (t : Ty ℕ) (m : NameSet) where
     unfolding holds opensCon
     dimension-among e names xs s k = a names xs s k ∙ ap (λ d. d && amongBounds (numbered names) xs t) (ap dimensional e)
 
-  pub no-dimension : (s : Shape) → ((o : code.Open) → s ≡ shape.Open o → ⊥) → ((p : types.Product) → s ≡ shape.Dimension p → ⊥) → whole s ≡ t
+  pub no-dimension : (h : Head) → ((o : code.Open) → h ≡ head.Open o → ⊥) → ((p : types.Product) → h ≡ head.Dimension p → ⊥) → Begins h t
       → True (isDim t) m false
   unfolding holds
-  no-dimension s n d e names xs small k = ap (λ d. d && amongBounds (numbered names) xs t) (go s n d e)
+  no-dimension h n d e names xs small k = ap (λ d. d && amongBounds (numbered names) xs t) (go h n d e)
     where
-      go : (s : Shape) → ((o : code.Open) → s ≡ shape.Open o → ⊥) → ((p : types.Product) → s ≡ shape.Dimension p → ⊥) → whole s ≡ t
-          → false ≡ dimensional t
-      go (shape.Open o) n d e = absurd (n o refl)
-      go (shape.Basic b) n d e = ap dimensional e
-      go (shape.Dimension p) n d e = absurd (d p refl)
-      go (shape.Function ps u) n d e = ap dimensional e
-      go (shape.Struct x ts fs) n d e = ap dimensional e
-      go (shape.List u) n d e = ap dimensional e
+      go : (h : Head) → ((o : code.Open) → h ≡ head.Open o → ⊥) → ((p : types.Product) → h ≡ head.Dimension p → ⊥) → Begins h t → false ≡ dimensional t
+      go (head.Open o) n d e = absurd (n o refl)
+      go (head.Basic b) n d e = ap dimensional e
+      go (head.Dimension p) n d e = absurd (d p refl)
+      go (head.Function ts) n d e = ap dimensional e.3
+      go (head.Struct x ts) n d e = ap dimensional e.1
+      go (head.List u) n d e = ap dimensional e
 
 -- ══ Has-field ══
 

@@ -17,9 +17,9 @@ use Rattle.rules.specs.Trees.{Open, Ty, Binding, ◌≔◌}
 use Rattle.queries.specs.declared.name_set.NameSet.{NameSet}
 use Rattle.queries.specs.Marks.{Has}
 use Rattle.queries.specs.Scans.{choose}
-use Rattle.queries.specs.ScanLaws.{choose-append}
+use Rattle.queries.specs.ScanLaws.{choose-append, choose-none}
 use Rattle.queries.specs.declared.Kind.{Kind}
-use Rattle.judge_proposals.specs.Mixed.{variable, opens_of, opensBelow, Table, choose-nil}
+use Rattle.judge_proposals.specs.Mixed.{variable, opens_of, opensBelow, Table}
 
 or_assoc : (a b c : Bool) → ((a || b) || c) ≡ (a || (b || c))
 or_assoc true b c = refl
@@ -76,7 +76,7 @@ module _ (names : List Bytes) where
 
     has-nil : has [] ≡ false
     unfolding has any
-    has-nil = ap (any (eqb w)) (choose-nil k)
+    has-nil = ap (any (eqb w)) (choose-none k)
 
     same_test : (x n : ℕ) → (n ≡ x → ⊥) → ltb x n ≡ ltb x (suc n)
     same_test x n p = test (dec_lt x n)

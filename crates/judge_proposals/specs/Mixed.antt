@@ -1,10 +1,8 @@
 -- The open names of a table of places.
-use Rattle.std.specs.Prelude.{◌≡◌, refl, true, List, [], ◌∷◌, ◌++◌, map, ℕ, zero, suc, ◌+◌, ◌-◌, ◌<◌, get_or}
+use Rattle.std.specs.Prelude.{◌≡◌, true, List, [], ◌∷◌, ◌++◌, map, ℕ, zero, suc, ◌+◌, ◌-◌, ◌<◌, get_or}
 use Rattle.std.proofs.Common.{append_assoc, append-nil, add-one, arith}
 use Rattle.std.proofs.Math.Option.{Option, none, some}
-use Rattle.rules.specs.Base.{collect}
 use Rattle.rules.specs.Calls.{differ}
-use Rattle.rules.specs.Contents.{variablesIn, parametersIn, namesIn}
 use Rattle.rules.specs.Names.{Bytes, numbered}
 use Rattle.rules.specs.Replacing.{find}
 use Rattle.rules.specs.Trees.{Open, var, Ty, Binding, ◌≔◌, opens, size}
@@ -13,9 +11,8 @@ use Rattle.replace.specs.Places.{SaysAt, says_some}
 use Rattle.queries.specs.declared.name_set.NameSet.{NameSet}
 use Rattle.queries.specs.Marks.{Has}
 use Rattle.queries.specs.Scans.{choose, opensIn}
-use Rattle.queries.specs.ScanLaws.{choose-append, type-opens}
+use Rattle.queries.specs.ScanLaws.{choose-append, choose-none, type-opens}
 use Rattle.queries.specs.declared.Kind.{Kind}
-use Rattle.queries.specs.declared.Kind.TheVariants.{Variables, Parameters, Both}
 
 -- a variable that is bound, and the open names of its type
 abbrev pub opens_of : ℕ → Option (Ty ℕ) → List (Open ℕ)
@@ -36,15 +33,9 @@ pub record Table (types places : List ℕ) (names : List Bytes) (bs : List (Bind
   pub once : differ (map variable bs) ≡ true
   pub below : (x : ℕ) (t : Ty ℕ) → find (numbered names) bs x ≡ some t → x < 256
 
-pub choose-nil : (k : Kind) → choose k [] ≡ []
-unfolding variablesIn parametersIn namesIn collect
-choose-nil Variables = refl
-choose-nil Parameters = refl
-choose-nil Both = refl
-
 module _ (types : List ℕ) (x w : ℕ) (k : Kind) where
   pub unbound : {m : NameSet} (t : Option (Ty ℕ)) (xs : List ℕ) → SaysAt types w t → w ≡ 0 → Has m xs → Has m (xs ++ choose k (opens_of x t))
-  unbound none xs h e m = rw (choose-nil k, append-nil) m
+  unbound none xs h e m = rw (choose-none k, append-nil) m
   unbound (some t) xs h e m = absurd (omega (arith, h.word))
 
   -- the variable, then its type

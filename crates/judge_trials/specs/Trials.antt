@@ -39,7 +39,6 @@ use Rattle.replace.specs.Substitutions.{ALook, one-look}
 use Rattle.replace.specs.Well.{Lent}
 use Rattle.replace.specs.Written.{written-cons}
 use Rattle.types.specs.declared.writer.Writer.{Writer}
-use Rattle.types.specs.Once.{ACon}
 use Rattle.types.specs.Sets.{Cons, HoldsCons, IsCons, con-some, one-set}
 use Rattle.types.specs.Written.{last}
 
@@ -98,10 +97,11 @@ module _ (pool table : List ℕ) where
           go (yes k) = absurd (e d (sizeCon d) (record { held = stands; past = omega arith; deep = k; good = s.good }))
           go (no k) = let j : 64 < depthCon d = omega arith in sym (rw (sized-deep (sizeCon d) (depthCon d) d j))
 
-      pub flat : {e : ℕ} {r : Bool} {m : NameSet} (p : ACon w 0) → Ends (GoodCon pool table 0 w 0) (Some e) → True p.0 m r → Has m xs → got r ≡ tested xs d
+      pub flat : {e : ℕ} {r : Bool} {m : NameSet} (b : Con ℕ) → Ends (GoodCon pool table 0 w 0) (Some e) → True b m r → Has m xs → HoldsCon w b 0
+          → got r ≡ tested xs d
       unfolding failed
-      flat {e} {r} {m} p (c, g) t marks =
-          let told : True d m r = subst (λ (x : Con ℕ). True x m r) (only-con w p.0 d 0 p.1 stands) t in
+      flat {e} {r} {m} b (c, g) t marks held =
+          let told : True d m r = subst (λ (x : Con ℕ). True x m r) (only-con w b d 0 held stands) t in
           let j : depthCon d ≤ 64 = subst (λ (x : Con ℕ). depthCon x ≤ 64) (only-con w c d 0 g.held stands) g.deep in
           sym (rw (sized-kept (sizeCon d) (depthCon d) d few j, told (names_of (table_of pool table)) xs small marks))
 
@@ -118,10 +118,15 @@ module _ (pool table : List ℕ) where
     pub good : all (goodCon pool table 0) cs ≡ true
 
 -- whichever way it is told what the names become, it is what the bindings say
-pub same-look : (pool table places types : List ℕ) (bs : List (Binding ℕ)) → Put pool table places types bs → (p : ALook pool table places types)
-    → p.0 ≡ bindings (numbers pool table) bs
-same-look pool table places types bs l p = ap (λ (k : ALook pool table places types). k.0)
-    (one-look pool table places types p (bindings (numbers pool table) bs, l.lent))
+pub same-look : (pool table places types : List ℕ) (bs : List (Binding ℕ)) {look : Look ℕ} → Put pool table places types bs
+    → Lent pool table places types look → look ≡ bindings (numbers pool table) bs
+same-look pool table places types bs {look} p l = ap (λ (k : ALook pool table places types). k.0)
+    (one-look pool table places types (look, l) (bindings (numbers pool table) bs, p.lent))
+
+-- so what it gives is without quantified variables
+pub plain-look : (pool table places types : List ℕ) (bs : List (Binding ℕ)) {look : Look ℕ} → Put pool table places types bs
+    → Lent pool table places types look → (o : Open ℕ) (t : Ty ℕ) → look o ≡ some t → goodTy pool table 0 t ≡ true
+plain-look pool table places types bs p l o t e = p.good o t (ap (λ (k : Look ℕ). k o) (sym (same-look pool table places types bs p l)) ∙ e)
 
 -- what becomes of names is without quantified variables
 abbrev pub Plain : Substitution → Type 0
@@ -196,8 +201,8 @@ module _ (pool table set : List ℕ) where
       pub good : all (goodCon pool table 0) rest ≡ true
       pub decides : fails-in 0 cs ≡ fails-in k rest
 
-    pub going_start : SetThere pool table set cs → (h : Cons set 0 (length set / 4)) → Going 0 h.0
-    going_start t h = subst (λ (x : Cons set 0 (length set / 4)). Going 0 x.0) (one-set set 0 (length set / 4) (cs, t.held) h)
+    pub going_start : {ds : List (Con ℕ)} → SetThere pool table set cs → IsCons set 0 (length set / 4) ds → Going 0 ds
+    going_start {ds} t h = subst (λ (x : Cons set 0 (length set / 4)). Going 0 x.0) (one-set set 0 (length set / 4) (cs, t.held) (ds, h))
         (record { few = omega (arith, t.held.ends, set-few cs); good = t.good; decides = refl })
 
     module _ {k : ℕ} {now : List (Con ℕ)} (g : Going k now) where

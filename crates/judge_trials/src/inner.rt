@@ -57,15 +57,15 @@ fn is_true(
     ensures { (bs : List (Binding ℕ)) (xs : List ℕ) → by.entry.lent.0 ≡ lookOf by.entry bs → Has bounds.now xs →
         told result ≡ judgedBy by.entry bs xs c.entry.tree.0 }
 {
-    let front = &mut work[..RECORD_WORDS];
     let mut out = Writer {
-        words: front,
+        words: &mut work[..RECORD_WORDS],
         at: 0,
     };
-    let put = replace_constraint(by, c, &mut out);
-    let n = out.at;
-    match put {
-        Ok(()) => test(by.names, front, n, bounds),
+    match replace_constraint(by, c, &mut out) {
+        Ok(()) => {
+            let n = out.at;
+            test(by.names, out.words, n, bounds)
+        }
         Err(why) => stopped(why),
     }
 }

@@ -18,10 +18,10 @@ use Rattle.rules.specs.Calls.{lent, type_at}
 use Rattle.records.specs.Views.{recs}
 use Rattle.records.specs.Found.{Words32}
 use Rattle.records.specs.Good.{GoodTy}
+use Rattle.records.specs.Holds.{Holds}
 use Rattle.records.specs.Parsed.{only}
 use Rattle.records.specs.ByView.{ends-in}
 use Rattle.judge_entries.proofs.Given.{type-there, type-is}
-use Rattle.types.specs.Once.{ATree}
 use Rattle.rules.specs.Steps.{
   LineStep,
   constant,
@@ -88,11 +88,11 @@ module _ (pool table types : List ℕ) (w : Words32 types) where
   pub type-none : (at : ℕ) → ((ty : Ty ℕ) (e : ℕ) → GoodTy pool table 0 types 64 at ty e → ⊥) → type_at t (recs types) at ≡ refused 1
   type-none at h = by_parts at (λ ty q. let (e, g) = type-is pool table types w at ty q in h ty e g)
 
-  pub type-found : (at : ℕ) (ty : Ty ℕ) (e : ℕ) → GoodTy pool table 0 types 64 at ty e → (x : ATree types at) → got x.0 ≡ type_at t (recs types) at
-  type-found at ty e g x = ap got (only types x.0 ty at x.1 g.held) ∙ sym (type-there pool table types w at ty e g)
+  pub type-found : (at : ℕ) (ty : Ty ℕ) (e : ℕ) → GoodTy pool table 0 types 64 at ty e → (u : Ty ℕ) → Holds types u at → got u ≡ type_at t (recs types) at
+  type-found at ty e g u h = ap got (only types u ty at h g.held) ∙ sym (type-there pool table types w at ty e g)
 
-pub few-of : (s : List ℕ) (at : ℕ) (x : ATree s at) → length s ≤ 8192 → size x.0 ≤ 2048
-few-of s at x h = omega (arith, ends-in s x.0 at x.1)
+pub few-of : (s : List ℕ) (u : Ty ℕ) (at : ℕ) → Holds s u at → length s ≤ 8192 → size u ≤ 2048
+few-of s u at h short = omega (arith, ends-in s u at h)
 
 -- ══ Words that are 0 ══
 

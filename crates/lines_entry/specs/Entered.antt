@@ -72,7 +72,8 @@ its-short steps types lines names h =
 -- ══ The answers of the code ══
 
 module _ (steps types lines names : List ℕ) where
-  pub enter-long : (table : Result NameTable Refusal) → need false 8 ≡ lineShort steps types lines names → refused 8 ≡ entered_over table steps types lines names
+  pub enter-long : (table : Result NameTable Refusal) → need false 8 ≡ lineShort steps types lines names
+      → refused 8 ≡ entered_over table steps types lines names
   unfolding lineEntered
   enter-long (Ok n) h = rw (← h)
   enter-long (Err why) h = rw (← h)

@@ -9,7 +9,7 @@ ghost use Rattle.judge_meaning.specs.Truth.{Bounded, True};
 use super::means;
 use queries::Kind;
 use queries::name_set::NameSet;
-use types::{Constraint, Demand, Shape, Type};
+use types::{Constraint, Demand, Head, Shape, Type};
 
 /// Are all open names of the type among the bounds?
 fn among_bounds(t: Type, bounds: &NameSet) -> bool
@@ -24,9 +24,9 @@ fn among_bounds(t: Type, bounds: &NameSet) -> bool
 fn is_dimension(t: Type, bounds: &NameSet) -> bool
     ensures { True (isDim t.entry.tree.0) bounds.now result }
 {
-    match t.shape() {
-        Shape::Open(_) => among_bounds(t, bounds),
-        Shape::Dimension(_) => among_bounds(t, bounds),
+    match t.head() {
+        Head::Open(_) => among_bounds(t, bounds),
+        Head::Dimension(_) => among_bounds(t, bounds),
         _ => false,
     }
 }

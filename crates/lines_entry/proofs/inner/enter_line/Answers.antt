@@ -1,5 +1,5 @@
 -- `enter_line` meets its contract.
-use mathlib.Core.Path.{◌≡◌, sym, ap, ◌∙◌}
+use mathlib.Core.Path.{sym, ap, ◌∙◌}
 use mathlib.Core.Bool.{Bool}
 use Rattle.rules.specs.Base.{need}
 use Rattle.rules.specs.Refusals.{toldBy}

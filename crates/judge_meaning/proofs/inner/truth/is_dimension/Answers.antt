@@ -8,4 +8,4 @@ pub returns-in-Dimension : goal.returns-in-Dimension
 returns-in-Dimension c = dimension-among _ _ c.among_bounds-in-Dimension.ensures c.in-Dimension.ensures
 
 pub returns-in_default : goal.returns-in_default
-returns-in_default c = no-dimension _ _ _ c.in_default.not-Open c.in_default.not-Dimension c.shape.ensures
+returns-in_default c = no-dimension _ _ _ c.in_default.not-Open c.in_default.not-Dimension c.head.ensures

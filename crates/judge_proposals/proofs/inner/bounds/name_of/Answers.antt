@@ -1,12 +1,9 @@
 -- `inner::bounds::name_of` meets its contract.
-use mathlib.Core.Path.{◌≡◌, refl, sym, ap, ◌∙◌}
-use mathlib.Core.List.{[], ◌∷◌}
+use mathlib.Core.Path.{◌≡◌, sym, ap, ◌∙◌}
 use Rattle.rules.specs.Writing.{word_of}
 use Rattle.records.specs.Holds.{openOf, viewOpen}
 use Rattle.records.specs.declared.View.TheVariants as view
 use Rattle.records.specs.ByView.{open-back}
-use Rattle.replace.proofs.Others.{untagged}
-use borrow.Enum.Refused.{opened}
 use Rattle.judge_proposals.proofs.inner.bounds.name_of.Goals as goal
 
 pub returns-in-Bound : goal.returns-in-Bound
@@ -16,6 +13,4 @@ returns-in-Bound c = λ o h.
     c.number.ensures ∙ ap (λ p. word_of (openOf p)) z ∙ ap word_of (open-back o)
 
 pub returns-in_default : goal.returns-in_default
-returns-in_default c = λ o h.
-    absurd (untagged c.view_at.result (0 ∷ 1 ∷ 2 ∷ 3 ∷ 4 ∷ 5 ∷ 6 ∷ 7 ∷ 8 ∷ 9 ∷ 10 ∷ 11 ∷ 12 ∷ 14 ∷ 15 ∷ 16 ∷ []) 13 tt
-    (opened c.in_default.in_default-own.keys2) (view.Bound (viewOpen o)) refl (c.view_at.ensures ∙ h.0))
+returns-in_default c = λ o h. absurd (c.in_default.not-Bound (viewOpen o) (c.view_at.ensures ∙ h.0))

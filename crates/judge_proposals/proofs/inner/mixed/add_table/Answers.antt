@@ -6,12 +6,13 @@ use Rattle.rules.specs.Names.{numbered}
 use Rattle.rules.specs.Replacing.{find}
 use Rattle.replace.specs.Places.{SaysAt}
 use Rattle.queries.specs.Marks.{Has}
-use Rattle.judge_proposals.specs.Mixed.{choose-nil, opensBelow, below_on}
+use Rattle.queries.specs.ScanLaws.{choose-none}
+use Rattle.judge_proposals.specs.Mixed.{opensBelow, below_on}
 use Rattle.judge_proposals.proofs.inner.mixed.add_table.Goals as goal
 
 pub loop-x-init : goal.loop-x-init
 unfolding opensBelow
-loop-x-init c = λ bs names xs h m. rw (choose-nil _, append-nil) m
+loop-x-init c = λ bs names xs h m. rw (choose-none _, append-nil) m
 
 pub add_bound-requires : goal.add_bound-requires
 add_bound-requires c =

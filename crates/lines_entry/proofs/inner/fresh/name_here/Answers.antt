@@ -2,7 +2,6 @@
 use mathlib.Core.Path.{sym, ap, ◌∙◌}
 use Rattle.lines_entry.specs.Used.{namesView}
 use Rattle.lines_entry.proofs.Others.{none_named}
-use borrow.Enum.Refused.{opened}
 use Rattle.lines_entry.proofs.inner.fresh.name_here.Goals as goal
 
 pub returns-in-Opened : goal.returns-in-Opened
@@ -18,4 +17,6 @@ pub returns-in-Factor : goal.returns-in-Factor
 returns-in-Factor c = c.atom_name.ensures ∙ ap namesView (sym c.in-Factor.is ∙ c.view_at.ensures)
 
 pub returns-in_default : goal.returns-in_default
-returns-in_default c = sym (none_named c.view_at.result (opened c.in_default.in_default-own.keys5)) ∙ ap namesView c.view_at.ensures
+returns-in_default c =
+    let d = c.in_default in
+    sym (none_named c.view_at.result d.not-Opened d.not-Struct d.not-Field d.not-Factor) ∙ ap namesView c.view_at.ensures

@@ -42,4 +42,4 @@ pub returns-in-9 : goal.returns-in-9
 returns-in-9 c = c.plain-in-9.ensures ∙ step-chooses _ _ _ _ _ _ _ c.in-9.is
 
 pub returns-in_default : goal.returns-in_default
-returns-in_default c = step-unknown _ _ _ _ _ _ _ (λ n p q e. omega (arith, p, q, e, c.in_default.in_default-own.rest))
+returns-in_default c = step-unknown _ _ _ _ _ _ _ (λ n p q e. omega (arith, p, q, e, c.in_default))
