@@ -9,6 +9,7 @@ and crates/shupkelen a function. Prints what is missing and ends with 1 if somet
 import re
 import sys
 from pathlib import Path
+from typing import Callable, NamedTuple
 
 ROOT = Path(__file__).resolve().parent.parent
 CRATES = ROOT / "crates"
@@ -85,38 +86,55 @@ def calls():
     return [Call(n, *part) for n, part in enumerate(re.findall(r"((?:^ +///.*\n)*)^ +(\w+),$", body, re.M), 1)]
 
 
+class Place(NamedTuple):
+    """Where a call has to stand: what stands there, one of which files has it, what is found of a call, behind what it is added, and what is added to a text."""
+
+    what: str
+    paths: list
+    there: Callable
+    behind: str = ""
+    added: Callable = lambda text: None
+
+
 def places(before, call):
-    """Where a call has to stand: the files, one of which has it; what is found there; behind what it is added; what is added, or None where that is by hand."""
     last, name, n = before.name, call.name, call.number
-    defined = CRATES / "calls_defined/specs"
-    takes_work = "true" if "work" in call.lent.split() else "false"
-    yield [NUMBERS], rf"{n} => Some\(Call::{name}\)", rf" +{n - 1} => Some\(Call::{last}\),\n", lambda _: f"            {n} => Some(Call::{name}),\n"
-    yield [defined / "Numbers.antt"], rf"^  {name},$", rf"  {last},\n", lambda _: f"  {name},\n"
-    yield [defined / "Numbers.antt"], rf"\({n}, {name}\)", rf" +∷ \({n - 1}, {last}\)\n", lambda _: f"    ∷ ({n}, {name})\n"
-    yield [DISPATCH], rf"^  {name},$", rf"  {last},\n", lambda _: f"  {name},\n"
-    yield [DISPATCH], rf"^  dispatch {name} = ", None, None
-    yield sorted((CRATES / "calls/src").rglob("*.rt")), rf"Call::{name}\b", rf" +Call::{last} => .*\n", lambda _: call.arm()
-    answers = sorted((CRATES / "calls/proofs").rglob("Answers.antt"))
-    yield answers, rf"returns-in-{name}\b", rf"^returns-in-{last} c = .*\n", call.answer
-    program = [CRATES / "calls_run/src/main.rt"]
-    yield program, rf"Call::{name}\b", r" +Call::[^\n]* => false,\n(?!.* => false)", lambda _: f"        Call::{name} => {takes_work},\n" if call.told else None
+    numbers, program = CRATES / "calls_defined/specs/Numbers.antt", CRATES / "calls_run/src/main.rt"
+    sources, answers = sorted((CRATES / "calls/src").rglob("*.rt")), sorted((CRATES / "calls/proofs").rglob("Answers.antt"))
+    works = f"        Call::{name} => {'true' if 'work' in call.lent.split() else 'false'},\n" if call.told else None
+
+    def imported(path):
+        return Place("import", [path], lambda c: rf"^  {c.name},$", rf"  {last},\n", lambda text: f"  {name},\n")
+
+    def numbered(path, entry):
+        return Place("number", [path], lambda c: re.escape(entry(c).strip()), re.escape(entry(before)), lambda text: entry(call))
+
+    return [
+        numbered(NUMBERS, lambda c: f"            {c.number} => Some(Call::{c.name}),\n"),
+        numbered(numbers, lambda c: f"    ∷ ({c.number}, {c.name})\n"),
+        imported(numbers),
+        imported(DISPATCH),
+        Place("line of dispatch", [DISPATCH], lambda c: rf"^  dispatch {c.name} = "),
+        Place("arm", sources, lambda c: rf"Call::{c.name}\b", rf" +Call::{last} => .*\n", lambda text: call.arm()),
+        Place("answer", answers, lambda c: rf"^returns-in-{c.name} c = ", rf"^returns-in-{last} c = .*\n(?:.+\n)*", call.answer),
+        Place("yes or no to the work buffer", [program], lambda c: rf"Call::{c.name}\b", r" +Call::[^\n]* => false,\n(?!.* => false)", lambda text: works),
+    ]
 
 
 def missing(before, call):
-    """The places that lack a call, after what can be written was."""
-    for paths, there, behind, added in places(before, call):
-        texts = {path: read(path) for path in paths}
-        if any(re.search(there, text, re.M) for text in texts.values()):
+    """The places that lack a call, after what can be written was; one that lacks the call before, too, is no place of calls."""
+    for place in places(before, call):
+        texts = {path: read(path) for path in place.paths}
+        path = next((p for p, text in texts.items() if re.search(place.there(before), text, re.M)), None)
+        if path is None or any(re.search(place.there(call), text, re.M) for text in texts.values()):
             continue
-        path = next((p for p, text in texts.items() if behind and re.search(behind, text, re.M)), paths[0])
-        line = added(texts[path]) if added and behind and re.search(behind, texts[path], re.M) else None
+        line = place.added(texts[path]) if place.behind and re.search(place.behind, texts[path], re.M) else None
         if line is None:
-            yield f"{path.relative_to(ROOT)}: no {call.name} ({there}), which is by hand"
+            yield f"{path.relative_to(ROOT)}: {call.name} has no {place.what}, which is by hand"
         elif WRITE:
-            text = re.sub(behind, lambda found: found.group() + line, texts[path], count=1, flags=re.M)
-            path.write_text(call.imported(text) if line == call.arm() else text, encoding="utf-8")
+            text = re.sub(place.behind, lambda found: found.group() + line, texts[path], count=1, flags=re.M)
+            path.write_text(call.imported(text) if place.what == "arm" else text, encoding="utf-8")
         else:
-            yield f"{path.relative_to(ROOT)}: no {call.name}: python3 tools/calls.py --write"
+            yield f"{path.relative_to(ROOT)}: {call.name} has no {place.what}: python3 tools/calls.py --write"
 
 
 def numbers_of(cell):
