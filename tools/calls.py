@@ -87,7 +87,7 @@ def calls():
 
 
 class Place(NamedTuple):
-    """Where a call has to stand: what stands there, one of which files has it, what is found of a call, behind what it is added, and what is added to a text."""
+    """Where a call has to stand: what stands there, which files may have it, what is found of a call, behind what it is added, what is added to a text."""
 
     what: str
     paths: list
@@ -129,7 +129,8 @@ def missing(before, call):
             continue
         line = place.added(texts[path]) if place.behind and re.search(place.behind, texts[path], re.M) else None
         if line is None:
-            yield f"{path.relative_to(ROOT)}: {call.name} has no {place.what}, which is by hand"
+            how = "and its line of dispatch makes none" if place.behind else "which is by hand"
+            yield f"{path.relative_to(ROOT)}: {call.name} has no {place.what}, {how}"
         elif WRITE:
             text = re.sub(place.behind, lambda found: found.group() + line, texts[path], count=1, flags=re.M)
             path.write_text(call.imported(text) if place.what == "arm" else text, encoding="utf-8")
