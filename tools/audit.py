@@ -9,9 +9,9 @@ crate. A table that was measured says so in a line
     Measured at COMMIT, KIT, MACHINE, DATE, of: CRATE ..
 and is older than the code once the source of one of these crates has changed since: a warning. The figures of AUDIT.md are counted anew. And what the
 source has stands on the pages: each theorem in THEOREMS.md or CONTRACTS.md, each call of the rules (`..Call`) in CONTRACTS.md with an edit that it
-refuses, each file of definitions in RULES.md and in Lib, each exported function that dist/ lacks in CHANGELOG.md. `--write` writes figures, rows of
-theorems (their `///`), and names in Lib. Prints each name that isn't found, each that no page has, each figure that is wrong and each measured line that
-is too old; ends with 1 but for the last."""
+refuses, in CallsAlike (two offices), each file of definitions in RULES.md, each file of specs/ and proofs/ in Lib, each exported function that dist/ lacks
+in CHANGELOG.md. `--write` writes figures, rows of theorems (their `///`), and names in Lib. Prints each name that isn't found, each that no page has, each
+figure that is wrong and each measured line that is too old; ends with 1 but for the last."""
 import functools
 import re
 import subprocess
@@ -23,6 +23,8 @@ CRATES = ROOT / "crates"
 # what the pages PORT.. say of older forms is no longer there
 PAGES = [ROOT / "README.md"] + [p for p in sorted((ROOT / "docs").rglob("*.md")) if not p.name.startswith("PORT")]
 SOURCES = ["crates", "include", "bindings", "compare", "tools", "examples"]
+# calls that have a theorem of their own on two name tables, and calls that are lent none
+APART = {"checkLineCall", "compactCall", "sumCall", "timesCall", "negationCall", "quotientCall"}
 KINDS = {".rt", ".antt", ".edit", ".h", ".c", ".rs", ".py", ".sh", ".toml", ".sheet", ".txt"}
 
 
@@ -158,6 +160,8 @@ def unnamed(write):
         for call in re.findall(r"^\s*(?:unfoldable |abbrev )?pub (\w+Call) :", f.read_text(encoding="utf-8"), re.M):
             if not re.search(rf"^\| .*`{call}`.*`\w+/\w+`[^|]*\|$", page["docs/CONTRACTS.md"], re.M):
                 yield f"docs/CONTRACTS.md: no row for {call} (rules/specs/{f.stem}), with an edit that is refused"
+            if call not in APART and not re.search(rf"\({call} ", (CRATES / "rules/specs/Offices.antt").read_text(encoding="utf-8")):
+                yield f"crates/rules/specs/Offices.antt: nothing of {call} in CallsAlike, though docs/CONTRACTS.md says that any call is answered alike"
     for name in exported("include") - exported("dist/include"):
         if not says(name, "CHANGELOG.md"):
             yield f"CHANGELOG.md: nothing of {name}, which dist/ doesn't have"
@@ -168,8 +172,8 @@ def exported(folder):
 
 
 def listed(write):
-    """Files of specs/ that Lib doesn't name."""
-    for lib in sorted(CRATES.glob("*/specs/Lib.antt")):
+    """Files of specs/ and proofs/ that Lib doesn't name."""
+    for lib in sorted([*CRATES.glob("*/specs/Lib.antt"), *CRATES.glob("*/proofs/Lib.antt")]):
         text = lib.read_text(encoding="utf-8")
         for stem in sorted({f.stem for f in lib.parent.glob("*.antt")} - {"Lib"} - set(re.findall(r"\bmod (\w+)", text))):
             if write:
