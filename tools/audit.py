@@ -112,10 +112,13 @@ def measured(page):
             yield None if same else f"{page.relative_to(ROOT)}, line {number}: warning: measured at {said.group(1)}, before the code changed"
 
 
+def without_imports(path):
+    return re.sub(r"^use [^{\n]*(\{[^}]*\})?.*$", "", path.read_text(encoding="utf-8"), flags=re.M)
+
+
 def bare_lines(path):
     """The lines of definitions in a file: without comments, imports and blank lines."""
-    text = re.sub(r"^use [^{\n]*(\{[^}]*\})?.*$", "", path.read_text(encoding="utf-8"), flags=re.M)
-    return sum(1 for line in text.splitlines() if line.strip() and not line.strip().startswith("--"))
+    return sum(1 for line in without_imports(path).splitlines() if line.strip() and not line.strip().startswith("--"))
 
 
 def definitions():
@@ -154,13 +157,14 @@ def unnamed(write):
             (ROOT / "docs/THEOREMS.md").write_text(page["docs/THEOREMS.md"], encoding="utf-8")
         else:
             yield f"docs/THEOREMS.md: nothing of {path}" + (": tools/audit.py --write" if words else ", which has no ///")
+    offices = without_imports(CRATES / "rules/specs/Offices.antt")
     for f in definitions():
         if not says(f"rules/specs/{f.stem}", "docs/RULES.md"):
             yield f"docs/RULES.md: nothing of rules/specs/{f.stem}"
         for call in re.findall(r"^\s*(?:unfoldable |abbrev )?pub (\w+Call) :", f.read_text(encoding="utf-8"), re.M):
             if not re.search(rf"^\| .*`{call}`.*`\w+/\w+`[^|]*\|$", page["docs/CONTRACTS.md"], re.M):
                 yield f"docs/CONTRACTS.md: no row for {call} (rules/specs/{f.stem}), with an edit that is refused"
-            if call not in APART and not re.search(rf"\({call} ", (CRATES / "rules/specs/Offices.antt").read_text(encoding="utf-8")):
+            if call not in APART and not re.search(rf"\b{call}\b", offices):
                 yield f"crates/rules/specs/Offices.antt: nothing of {call} in CallsAlike, though docs/CONTRACTS.md says that any call is answered alike"
     for name in exported("include") - exported("dist/include"):
         if not says(name, "CHANGELOG.md"):
