@@ -167,7 +167,8 @@ def served(all_calls):
 
 def counted(all_calls):
     """How many calls there are, where that is said."""
-    for path, said in ((NUMBERS, r"(has a number: 1 to )\d+"), (SERVE, r"(number of the call, 1 to )\d+")):
+    said_in = ((NUMBERS, r"(has a number: 1 to )\d+"), (SERVE, r"(number of the call, 1 to )\d+"), (ROOT / "README.md", r"(puts )\d+(?= calls)"))
+    for path, said in said_in:
         text = read(path)
         right = re.sub(said, rf"\g<1>{len(all_calls)}", text)
         if WRITE:
