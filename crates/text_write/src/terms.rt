@@ -1,5 +1,7 @@
 //! Types as text.
+ghost use Rattle.std.specs.Prelude.{true, ◌++◌};
 ghost use Rattle.rules.specs.TextWriting.{basicText, tyText};
+ghost use Rattle.rules.specs.Trees as tree;
 ghost use Rattle.records.specs.Holds.{basicOf};
 ghost use Rattle.text_spell.specs.Sinks.{Puts};
 ghost use Rattle.text_write.specs.Parts.{between, bracket, comma, fromFields, fromTys, head, label, name_of};
@@ -71,26 +73,60 @@ pub fn write_type<S: Sink>(names: NameTable, t: Type, to: &mut S) -> Result<(), 
         Shape::Open(o) => put_open(names, o, to),
         Shape::Basic(basic) => put_basic(basic, to),
         Shape::Dimension(factors) => put_dimension(names, factors, to),
-        Shape::Function(parameters, returned) => {
-            to.put(b"Fn[(")?;
-            write_types(names, parameters, true, to)?;
-            to.put(b") -> ")?;
-            write_type(names, returned, to)?;
-            to.put(b"]")
-        }
-        Shape::Struct(x, arguments, fields) => {
-            put_head(names, x, arguments.count, to)?;
-            write_types(names, arguments, true, to)?;
-            put_between(arguments.count, fields.count, to)?;
-            write_fields(names, fields, true, to)?;
-            put_if(fields.count, b'}', to)
-        }
-        Shape::List(element) => {
-            to.put(b"List<")?;
-            write_type(names, element, to)?;
-            to.put(b">")
-        }
+        Shape::Function(parameters, returned) => write_function(names, parameters, returned, to),
+        Shape::Struct(x, arguments, fields) => write_struct(names, x, arguments, fields, to),
+        Shape::List(element) => write_list(names, element, to),
     }
+}
+
+/// Puts a function's type.
+#[cycle(types)]
+fn write_function<S: Sink>(
+    names: NameTable,
+    parameters: Types,
+    returned: Type,
+    to: &mut S,
+) -> Result<(), S::Error>
+    ensures { Puts (S.place to.old)
+        (tyText (name_of names.entry.pool.now names.entry.table.now) (tree.fn parameters.entry.trees.0 returned.entry.tree.0))
+        result (S.place to.new) }
+{
+    to.put(b"Fn[(")?;
+    write_types(names, parameters, true, to)?;
+    to.put(b") -> ")?;
+    write_type(names, returned, to)?;
+    to.put(b"]")
+}
+
+/// Puts a structure: its name, its parameters, its fields, each with its brackets.
+#[cycle(types)]
+fn write_struct<S: Sink>(
+    names: NameTable,
+    x: u32,
+    arguments: Types,
+    fields: Fields,
+    to: &mut S,
+) -> Result<(), S::Error>
+    ensures { let named = name_of names.entry.pool.now names.entry.table.now in let n = arguments.entry.count in let m = fields.entry.count in
+        Puts (S.place to.old)
+        (head (named x) n ++ (fromTys true named arguments.entry.trees.0 ++ (between n m ++ (fromFields true named fields.entry.trees.0 ++ bracket m 125))))
+        result (S.place to.new) }
+{
+    put_head(names, x, arguments.count, to)?;
+    write_types(names, arguments, true, to)?;
+    put_between(arguments.count, fields.count, to)?;
+    write_fields(names, fields, true, to)?;
+    put_if(fields.count, b'}', to)
+}
+
+/// Puts a list's type.
+#[cycle(types)]
+fn write_list<S: Sink>(names: NameTable, element: Type, to: &mut S) -> Result<(), S::Error>
+    ensures { Puts (S.place to.old) (tyText (name_of names.entry.pool.now names.entry.table.now) (tree.list element.entry.tree.0)) result (S.place to.new) }
+{
+    to.put(b"List<")?;
+    write_type(names, element, to)?;
+    to.put(b">")
 }
 
 /// Puts types, behind others or not.

@@ -7,7 +7,6 @@ use Rattle.records.specs.ByView.{size-pos}
 use Rattle.text_spell.specs.Sinks.{cut, nothing, then}
 use Rattle.text_write.specs.Parts.{
   fromTys,
-  name_of,
   next_fields,
   next_types,
   no_fields,
@@ -66,119 +65,23 @@ write_types-write_types-requires g t c κs within =
 pub write_types-returns : goal.write_types-returns
 write_types-returns g t c = rw (← c.in-Some.ensures, next_types) (then _ c.in_ok-put_comma.ensures (then _ c.in_ok-write_type.ensures c.write_types.ensures))
 
-pub write_type-returns-in_err-put-in-Function : goal.write_type-returns-in_err-put-in-Function
-unfolding tyText fromTys
-write_type-returns-in_err-put-in-Function g t c = rw (← c.in-Function.ensures) (cut _ _ c.from_residual.ensures.0 c.in_err-put-in-Function.ensures)
-
-pub write_type-write_types-requires : goal.write_type-write_types-requires
+pub write_type-write_function-requires : goal.write_type-write_function-requires
 unfolding size
-write_type-write_types-requires g t c κs within =
+write_type-write_function-requires g t c κs within =
     let n = ap (λ (t : Ty ℕ). size t) c.in-Function.ensures in
     (omega (arith, c.decreases, n), (search rules, search rules))
 
-pub write_type-returns-in_err-write_types-in-Function : goal.write_type-returns-in_err-write_types-in-Function
-unfolding tyText fromTys
-write_type-returns-in_err-write_types-in-Function g t c =
-    rw (← c.in-Function.ensures)
-    (then _ c.in_ok-put-in-Function.ensures (cut _ _ c.from_residual-in_err-write_types-in-Function.ensures.0 c.in_err-write_types-in-Function.ensures))
-
-pub write_type-returns-in_err-put-in-Function-2 : goal.write_type-returns-in_err-put-in-Function-2
-unfolding tyText fromTys
-write_type-returns-in_err-put-in-Function-2 g t c =
-    rw (← c.in-Function.ensures)
-    (then _ c.in_ok-put-in-Function.ensures (then _ c.in_ok-write_types-in-Function.ensures
-    (cut _ _ c.from_residual-in_err-put-in-Function-2.ensures.0 c.in_err-put-in-Function-2.ensures)))
-
-pub write_type-write_type-requires : goal.write_type-write_type-requires
+pub write_type-write_struct-requires : goal.write_type-write_struct-requires
 unfolding size
-write_type-write_type-requires g t c κs within =
-    let n = ap (λ (t : Ty ℕ). size t) c.in-Function.ensures in
-    (omega (arith, c.decreases, n), (search rules, search rules))
-
-pub write_type-returns-in_err-write_type-in-Function : goal.write_type-returns-in_err-write_type-in-Function
-unfolding tyText fromTys
-write_type-returns-in_err-write_type-in-Function g t c =
-    rw (← c.in-Function.ensures)
-    (then _ c.in_ok-put-in-Function.ensures (then _ c.in_ok-write_types-in-Function.ensures (then _ c.in_ok-put-in-Function-2.ensures
-    (cut _ _ c.from_residual-in_err-write_type-in-Function.ensures.0 c.in_err-write_type-in-Function.ensures))))
-
-pub write_type-returns-in_ok-write_type-in-Function : goal.write_type-returns-in_ok-write_type-in-Function
-unfolding tyText fromTys
-write_type-returns-in_ok-write_type-in-Function g t c =
-    rw (← c.in-Function.ensures)
-    (then _ c.in_ok-put-in-Function.ensures (then _ c.in_ok-write_types-in-Function.ensures (then _ c.in_ok-put-in-Function-2.ensures
-    (then _ c.in_ok-write_type-in-Function.ensures c.put-in-Function-2.ensures))))
-
-pub write_type-returns-in_err-put_head-in-Struct : goal.write_type-returns-in_err-put_head-in-Struct
-write_type-returns-in_err-put_head-in-Struct g t c =
-    let many = c.in-Struct.arguments.trees.1.many in
-    let fields = c.in-Struct.fields.trees.1.many in
-    rw (← c.in-Struct.ensures, struct_text (name_of c.args.names.pool.now c.args.names.table.now) c.in-Struct.x _ _ _ _ many fields)
-    (cut _ _ c.from_residual-in_err-put_head-in-Struct.ensures.0 c.in_err-put_head-in-Struct.ensures)
-
-pub write_type-write_types-requires-in-Struct : goal.write_type-write_types-requires-in-Struct
-unfolding size
-write_type-write_types-requires-in-Struct g t c κs within =
+write_type-write_struct-requires g t c κs within =
     let n = ap (λ (t : Ty ℕ). size t) c.in-Struct.ensures in
     (omega (arith, c.decreases, n), (search rules, search rules))
 
-pub write_type-returns-in_err-write_types-in-Struct : goal.write_type-returns-in_err-write_types-in-Struct
-write_type-returns-in_err-write_types-in-Struct g t c =
-    let many = c.in-Struct.arguments.trees.1.many in
-    let fields = c.in-Struct.fields.trees.1.many in
-    rw (← c.in-Struct.ensures, struct_text (name_of c.args.names.pool.now c.args.names.table.now) c.in-Struct.x _ _ _ _ many fields)
-    (then _ c.in_ok-put_head-in-Struct.ensures (cut _ _ c.from_residual-in_err-write_types-in-Struct.ensures.0 c.in_err-write_types-in-Struct.ensures))
-
-pub write_type-returns-in_err-put_between-in-Struct : goal.write_type-returns-in_err-put_between-in-Struct
-write_type-returns-in_err-put_between-in-Struct g t c =
-    let many = c.in-Struct.arguments.trees.1.many in
-    let fields = c.in-Struct.fields.trees.1.many in
-    rw (← c.in-Struct.ensures, struct_text (name_of c.args.names.pool.now c.args.names.table.now) c.in-Struct.x _ _ _ _ many fields)
-    (then _ c.in_ok-put_head-in-Struct.ensures (then _ c.in_ok-write_types-in-Struct.ensures
-    (cut _ _ c.from_residual-in_err-put_between-in-Struct.ensures.0 c.in_err-put_between-in-Struct.ensures)))
-
-pub write_type-write_fields-requires : goal.write_type-write_fields-requires
+pub write_type-write_list-requires : goal.write_type-write_list-requires
 unfolding size
-write_type-write_fields-requires g t c κs within =
-    let n = ap (λ (t : Ty ℕ). size t) c.in-Struct.ensures in
-    (omega (arith, c.decreases, n), (search rules, search rules))
-
-pub write_type-returns-in_err-write_fields-in-Struct : goal.write_type-returns-in_err-write_fields-in-Struct
-write_type-returns-in_err-write_fields-in-Struct g t c =
-    let many = c.in-Struct.arguments.trees.1.many in
-    let fields = c.in-Struct.fields.trees.1.many in
-    rw (← c.in-Struct.ensures, struct_text (name_of c.args.names.pool.now c.args.names.table.now) c.in-Struct.x _ _ _ _ many fields)
-    (then _ c.in_ok-put_head-in-Struct.ensures (then _ c.in_ok-write_types-in-Struct.ensures (then _ c.in_ok-put_between-in-Struct.ensures
-    (cut _ _ c.from_residual-in_err-write_fields-in-Struct.ensures.0 c.in_err-write_fields-in-Struct.ensures))))
-
-pub write_type-returns-in_ok-write_fields-in-Struct : goal.write_type-returns-in_ok-write_fields-in-Struct
-write_type-returns-in_ok-write_fields-in-Struct g t c =
-    let many = c.in-Struct.arguments.trees.1.many in
-    let fields = c.in-Struct.fields.trees.1.many in
-    rw (← c.in-Struct.ensures, struct_text (name_of c.args.names.pool.now c.args.names.table.now) c.in-Struct.x _ _ _ _ many fields)
-    (then _ c.in_ok-put_head-in-Struct.ensures (then _ c.in_ok-write_types-in-Struct.ensures (then _ c.in_ok-put_between-in-Struct.ensures
-    (then _ c.in_ok-write_fields-in-Struct.ensures c.put_if.ensures))))
-
-pub write_type-returns-in_err-put-in-List : goal.write_type-returns-in_err-put-in-List
-unfolding tyText
-write_type-returns-in_err-put-in-List g t c = rw (← c.in-List.ensures) (cut _ _ c.from_residual-in_err-put-in-List.ensures.0 c.in_err-put-in-List.ensures)
-
-pub write_type-write_type-requires-in-List : goal.write_type-write_type-requires-in-List
-unfolding size
-write_type-write_type-requires-in-List g t c κs within =
+write_type-write_list-requires g t c κs within =
     let n = ap (λ (t : Ty ℕ). size t) c.in-List.ensures in
     (omega (arith, c.decreases, n), (search rules, search rules))
-
-pub write_type-returns-in_err-write_type-in-List : goal.write_type-returns-in_err-write_type-in-List
-unfolding tyText
-write_type-returns-in_err-write_type-in-List g t c =
-    rw (← c.in-List.ensures) (then _ c.in_ok-put-in-List.ensures
-    (cut _ _ c.from_residual-in_err-write_type-in-List.ensures.0 c.in_err-write_type-in-List.ensures))
-
-pub write_type-returns-in_ok-write_type-in-List : goal.write_type-returns-in_ok-write_type-in-List
-unfolding tyText
-write_type-returns-in_ok-write_type-in-List g t c =
-    rw (← c.in-List.ensures) (then _ c.in_ok-put-in-List.ensures (then _ c.in_ok-write_type-in-List.ensures c.put-in-List-2.ensures))
 
 pub write_type-returns-in-Open : goal.write_type-returns-in-Open
 unfolding tyText
@@ -191,3 +94,89 @@ write_type-returns-in-Basic g t c = rw (← c.in-Basic.ensures) c.put_basic.ensu
 pub write_type-returns-in-Dimension : goal.write_type-returns-in-Dimension
 unfolding tyText
 write_type-returns-in-Dimension g t c = rw (← c.in-Dimension.ensures) c.put_dimension.ensures
+
+pub write_type-returns-in-Function : goal.write_type-returns-in-Function
+write_type-returns-in-Function g t c = rw (← c.in-Function.ensures) c.write_function.ensures
+
+pub write_type-returns-in-Struct : goal.write_type-returns-in-Struct
+write_type-returns-in-Struct g t c =
+    let s = c.in-Struct in
+    rw (← s.ensures, struct_text _ s.x _ _ _ _ s.arguments.trees.1.many s.fields.trees.1.many) c.write_struct.ensures
+
+pub write_type-returns-in-List : goal.write_type-returns-in-List
+write_type-returns-in-List g t c = rw (← c.in-List.ensures) c.write_list.ensures
+
+pub write_function-returns-in_err-put : goal.write_function-returns-in_err-put
+unfolding tyText fromTys
+write_function-returns-in_err-put g t c = cut _ _ c.from_residual.ensures.0 c.in_err-put.ensures
+
+pub write_function-write_types-requires : goal.write_function-write_types-requires
+write_function-write_types-requires g t c κs within = (omega (arith, c.decreases, size-pos c.args.returned.tree.0), (search rules, search rules))
+
+pub write_function-returns-in_err-write_types : goal.write_function-returns-in_err-write_types
+unfolding tyText fromTys
+write_function-returns-in_err-write_types g t c =
+    then _ c.in_ok-put.ensures (cut _ _ c.from_residual-in_err-write_types.ensures.0 c.in_err-write_types.ensures)
+
+pub write_function-returns-in_err-put-2 : goal.write_function-returns-in_err-put-2
+unfolding tyText fromTys
+write_function-returns-in_err-put-2 g t c =
+    then _ c.in_ok-put.ensures (then _ c.in_ok-write_types.ensures (cut _ _ c.from_residual-in_err-put-2.ensures.0 c.in_err-put-2.ensures))
+
+pub write_function-write_type-requires : goal.write_function-write_type-requires
+write_function-write_type-requires g t c κs within = (omega (arith, c.decreases), (search rules, search rules))
+
+pub write_function-returns-in_err-write_type : goal.write_function-returns-in_err-write_type
+unfolding tyText fromTys
+write_function-returns-in_err-write_type g t c =
+    then _ c.in_ok-put.ensures (then _ c.in_ok-write_types.ensures (then _ c.in_ok-put-2.ensures
+    (cut _ _ c.from_residual-in_err-write_type.ensures.0 c.in_err-write_type.ensures)))
+
+pub write_function-returns : goal.write_function-returns
+unfolding tyText fromTys
+write_function-returns g t c =
+    then _ c.in_ok-put.ensures (then _ c.in_ok-write_types.ensures (then _ c.in_ok-put-2.ensures (then _ c.in_ok-write_type.ensures c.put-3.ensures)))
+
+pub write_struct-returns-in_err-put_head : goal.write_struct-returns-in_err-put_head
+write_struct-returns-in_err-put_head g t c =
+    cut _ _ c.from_residual.ensures.0 c.in_err-put_head.ensures
+
+pub write_struct-write_types-requires : goal.write_struct-write_types-requires
+write_struct-write_types-requires g t c κs within = (omega (arith, c.decreases), (search rules, search rules))
+
+pub write_struct-returns-in_err-write_types : goal.write_struct-returns-in_err-write_types
+write_struct-returns-in_err-write_types g t c =
+    then _ c.in_ok-put_head.ensures (cut _ _ c.from_residual-in_err-write_types.ensures.0 c.in_err-write_types.ensures)
+
+pub write_struct-returns-in_err-put_between : goal.write_struct-returns-in_err-put_between
+write_struct-returns-in_err-put_between g t c =
+    then _ c.in_ok-put_head.ensures (then _ c.in_ok-write_types.ensures
+    (cut _ _ c.from_residual-in_err-put_between.ensures.0 c.in_err-put_between.ensures))
+
+pub write_struct-write_fields-requires : goal.write_struct-write_fields-requires
+write_struct-write_fields-requires g t c κs within = (omega (arith, c.decreases), (search rules, search rules))
+
+pub write_struct-returns-in_err-write_fields : goal.write_struct-returns-in_err-write_fields
+write_struct-returns-in_err-write_fields g t c =
+    then _ c.in_ok-put_head.ensures (then _ c.in_ok-write_types.ensures (then _ c.in_ok-put_between.ensures
+    (cut _ _ c.from_residual-in_err-write_fields.ensures.0 c.in_err-write_fields.ensures)))
+
+pub write_struct-returns : goal.write_struct-returns
+write_struct-returns g t c =
+    then _ c.in_ok-put_head.ensures (then _ c.in_ok-write_types.ensures (then _ c.in_ok-put_between.ensures
+    (then _ c.in_ok-write_fields.ensures c.put_if.ensures)))
+
+pub write_list-returns-in_err-put : goal.write_list-returns-in_err-put
+unfolding tyText
+write_list-returns-in_err-put g t c = cut _ _ c.from_residual.ensures.0 c.in_err-put.ensures
+
+pub write_list-write_type-requires : goal.write_list-write_type-requires
+write_list-write_type-requires g t c κs within = (omega (arith, c.decreases), (search rules, search rules))
+
+pub write_list-returns-in_err-write_type : goal.write_list-returns-in_err-write_type
+unfolding tyText
+write_list-returns-in_err-write_type g t c = then _ c.in_ok-put.ensures (cut _ _ c.from_residual-in_err-write_type.ensures.0 c.in_err-write_type.ensures)
+
+pub write_list-returns : goal.write_list-returns
+unfolding tyText
+write_list-returns g t c = then _ c.in_ok-put.ensures (then _ c.in_ok-write_type.ensures c.put-2.ensures)
