@@ -1,6 +1,6 @@
 -- The checks of a set past that of 10, and what is known where they are met; and the whole call.
 use Rattle.std.specs.Prelude.{Result, Ok, Err, IfOk, ◌≡◌, Bool, List, [], ◌∷◌, ℕ, ◌/◌, ◌≤◌, ◌&&◌, leb, length, replicate}
-use Rattle.std.proofs.Common.{refl, sym, ap, ap₂, ◌∙◌, arith}
+use Rattle.std.proofs.Common.{refl, sym, ap, ap₂, ◌∙◌}
 use Rattle.std.proofs.Math.Bool.{and-eq-true_iff}
 use borrow.Author.Tests.{leb-true, le-leb}
 use Rattle.rules.specs.Base.{Got, got, refused, ◌>>=◌, ◌>>◌, need, all, collect}
@@ -18,7 +18,7 @@ use Rattle.rules.specs.Calls.{
   solveCall,
 }
 use Rattle.rules.specs.Contents.{unmixed}
-use Rattle.rules.specs.Names.{Table, table_of, tableGood, tableGiven, lentTable}
+use Rattle.rules.specs.Names.{Table, table_of, tableGiven, lentTable}
 use Rattle.rules.specs.Refusals.{number_of, toldBy}
 use Rattle.rules.specs.Solving.{Answer}
 use Rattle.rules.specs.Trees.{Con, opensCon}
@@ -101,7 +101,8 @@ module _ {A : Type 0} (g : Table → List (Con ℕ) → Got A) where
         → call_over names made ws ≡ g (table_of s.names.pool.now s.names.table.now) (constraints_in s)
     came-in names s i e =
         let t = table_of s.names.pool.now s.names.table.now in
-        rw i (met (λ cs. apart t (collect opensCon cs)) (g t) (shortLists (ws ∷ [])) (tableKept t) (setGiven t ws) (constraints_in s) (kept s.names) (sym (rw i at e)))
+        rw i (met (λ cs. apart t (collect opensCon cs)) (g t) (shortLists (ws ∷ [])) (tableKept t) (setGiven t ws) (constraints_in s) (kept s.names)
+        (sym (rw i at e)))
 
     pub kept_out : (names : Result NameTable Refusal) (n : ℕ) → refused n ≡ entered names ws → call_over names made ws ≡ refused n
     kept_out (Err why) n e = as-refused (shortLists (ws ∷ [])) n (number_of why) e
@@ -135,7 +136,8 @@ through (got x) (got z) u a e = go (u z) refl
     go (refused i) q = clash (let n : refused i ≡ got a = sym (rw q at e) in n)
     go (got w) q = rw q at e
 
-pub entered-given : (ws : List ℕ) (names : Result NameTable Refusal) (s : GivenSet) → names ≡ Ok s.names → got (constraints_in s) ≡ entered names ws → Given ws s
+pub entered-given : (ws : List ℕ) (names : Result NameTable Refusal) (s : GivenSet) → names ≡ Ok s.names → got (constraints_in s) ≡ entered names ws
+    → Given ws s
 entered-given ws names s i e =
     let t = table_of s.names.pool.now s.names.table.now in
     given-in (Ok s.names) ws s refl (through (shortLists (ws ∷ [])) (setGiven t ws) (λ cs. apart t (collect opensCon cs)) (constraints_in s) (rw i at e))

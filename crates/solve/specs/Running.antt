@@ -3,7 +3,7 @@ use Rattle.std.proofs.Math.Path.{◌≡◌, refl, sym, ap, subst}
 use Rattle.std.proofs.Common.{◌∙◌, add-one, arith}
 use mathlib.Core.List.{List, []}
 use Rattle.std.proofs.Math.Option.{Option, none, some}
-use Prim.Native.Nat.{ℕ, zero, suc, ◌+◌, ◌*◌, ◌/◌, ◌≤◌, ◌<◌}
+use Prim.Native.Nat.{ℕ, zero, suc, ◌+◌, ◌*◌, ◌/◌, ◌≤◌}
 use Rattle.std.proofs.Math.ListN.{length}
 use Rattle.std.proofs.lemmas.List.Edits.{sets}
 use Rattle.std.proofs.Math.Seq.{slice}
@@ -106,29 +106,26 @@ module _ (pool table : List ℕ) where
 
     -- a round was completed
     going-on : {a : After} → r ≡ Ok a → (a ≡ Nowhere → ⊥) → (v : List ℕ) (e : Place)
-        → ((s : State ℕ) → Stands pool table w w' (Ok a) s → Placed pool table v e s) → Going cs v e (k + 1) × (k < enough)
+        → ((s : State ℕ) → Stands pool table w w' (Ok a) s → Placed pool table v e s) → Going cs v e (k + 1)
     unfolding after
     going-on {a} i n v e f = go (round (numbers pool table) bounded g.state) rounded
       where
-        go : (R : Got (Option (State ℕ))) → Round R → Going cs v e (k + 1) × (k < enough)
+        go : (R : Got (Option (State ℕ))) → Round R → Going cs v e (k + 1)
         go (refused j) (u, d) = absurd (subst (λ (x : Result After Refusal). Rounded pool table w w' x (refused j)) i u).says
         go (got none) (u, d) = absurd (n (let z : ◌≡◌ {A = Result After Refusal} (Ok a) (Ok Nowhere) = sym i ∙ u.says in cc))
-        go (got (some s)) (u, d) = (
-          record {
-            left = turning.left;
-            state = s;
-            sum = omega (arith, turning.sum);
-            held = f s (subst (λ (x : Result After Refusal). Rounded pool table w w' x (got (some s))) i u).says;
-            same = rw (add-one k) d;
-          },
-          omega (arith, turning.sum),
-        )
+        go (got (some s)) (u, d) = record {
+          left = turning.left;
+          state = s;
+          sum = omega (arith, turning.sum);
+          held = f s (subst (λ (x : Result After Refusal). Rounded pool table w w' x (got (some s))) i u).says;
+          same = rw (add-one k) d;
+        }
 
     -- and the state stands where it stood, or was written
-    pub going-here : (e : Place) → r ≡ Ok (Read e) → Going cs w e (k + 1) × (k < enough)
+    pub going-here : (e : Place) → r ≡ Ok (Read e) → Going cs w e (k + 1)
     going-here e i = going-on i (λ z. let y : ◌≡◌ {A = ℕ} 0 1 = cc in omega arith) w e (λ s h. h)
 
-    pub going-written : (e : Place) → r ≡ Ok (Written e) → Going cs w' e (k + 1) × (k < enough)
+    pub going-written : (e : Place) → r ≡ Ok (Written e) → Going cs w' e (k + 1)
     going-written e i = going-on i (λ z. let y : ◌≡◌ {A = ℕ} 0 1 = cc in omega arith) w' e (λ s h. h)
 
     -- no rule applies

@@ -7,6 +7,8 @@ ghost use Rattle.rules.specs.Refusals.{toldBy};
 ghost use Rattle.rules.specs.Solving.{solve};
 ghost use Rattle.rules.specs.Trees.{Con};
 ghost use Rattle.records.specs.Good.{numbers};
+ghost use Rattle.theorems_ending.proofs.Sets.{start};
+ghost use Rattle.solve_round.specs.States.{Placed};
 ghost use Rattle.solve.specs.Told.{toldSolution, refusedAs, Answered};
 ghost use Rattle.solve.specs.Running.{Begun};
 ghost use Rattle.solve.specs.Entry.{entered};
@@ -46,6 +48,25 @@ pub fn records(s: Solution) -> usize
     }
 }
 
+/// The set is copied to where the first round reads it.
+fn begin(set: &[u32], state: &mut [u32]) -> Place
+    requires short { length set.now ≤ 8192 }
+    requires room { 8192 ≤ length state.old }
+    ensures { (pool table : List ℕ) (cs : List (Con ℕ)) → Begun pool table set.now cs → Placed pool table state.new result (start cs) }
+{
+    let n = set.len() / 4;
+    copy(set, 0, n, state, 0);
+    let ends = Ends {
+        constraints: n,
+        bindings: n,
+    };
+    Place {
+        start: 0,
+        stuck: 0,
+        ends,
+    }
+}
+
 /// Round after round on the constraints of a set, and what is answered at the end. A round leaves the state where it is, or writes the next one to one half of
 /// the work buffer while it reads the other, and then the halves change places.
 pub fn run(names: NameTable, set: &[u32], res: &mut [u32], work: &mut [u32]) -> Solution
@@ -58,38 +79,24 @@ pub fn run(names: NameTable, set: &[u32], res: &mut [u32], work: &mut [u32]) -> 
     let mut new = [0u32; RECORD_WORDS];
     let (mut state, behind) = work.split_at_mut(RECORD_WORDS);
     let (mut next, _) = behind.split_at_mut(RECORD_WORDS);
-    let n = set.len() / 4;
-    copy(set, 0, n, state, 0);
-    let ends = Ends {
-        constraints: n,
-        bindings: n,
-    };
-    let mut place = Place {
-        start: 0,
-        stuck: 0,
-        ends,
-    };
-    let mut completed = 0;
+    let mut place = begin(set, state);
+    let mut rounds = 0;
     'turns: loop {
         match round(names, state, place, &mut new, next) {
             Ok(After::Read(left)) => {
                 place = left;
-                completed += 1;
+                rounds += 1;
             }
             Ok(After::Written(made)) => {
                 place = made;
-                completed += 1;
+                rounds += 1;
                 swap(&mut state, &mut next);
             }
             Ok(After::Nowhere) => {
-                return Solution {
-                    outcome: Ok(finish(names, state, place, res)),
-                    rounds: completed,
-                };
+                let outcome = Ok(finish(names, state, place, res));
+                return Solution { outcome, rounds };
             }
-            Err(r) => {
-                return stopped(r, completed);
-            }
+            Err(r) => return stopped(r, rounds),
         }
     }
 }

@@ -21,7 +21,7 @@ use rules::{RECORD_WORDS, RECORDS, Refusal};
 use solve::inner::{enter, run};
 use solve_finish::Finish;
 use types::writer::Writer;
-use types::{Constraint, Constraints, Demand, GivenSet, Shape, Type};
+use types::{Constraint, Constraints, Demand, GivenSet, Head, Type};
 
 /// How often a run of 2,048 lines can be halved.
 const HALVINGS: u32 = 11;
@@ -42,13 +42,13 @@ fn is_variable(o: Open) -> bool
 fn is_side(t: Type) -> bool
     ensures { result ≡ isSide t.entry.tree.0 }
 {
-    match t.shape() {
-        Shape::Open(o) => is_variable(o),
-        Shape::Basic(_) => false,
-        Shape::Dimension(_) => true,
-        Shape::Function(_, _) => false,
-        Shape::Struct(_, _, _) => false,
-        Shape::List(_) => false,
+    match t.head() {
+        Head::Open(o) => is_variable(o),
+        Head::Basic(_) => false,
+        Head::Dimension(_) => true,
+        Head::Function(_) => false,
+        Head::Struct(_, _) => false,
+        Head::List(_) => false,
     }
 }
 
@@ -136,7 +136,8 @@ impl<'a> Lines<'a> {
     fn is_refused(self, stands: &[bool; RECORDS], work: &mut [u32]) -> Result<bool, Refusal>
         requires long { length stands.now ≡ 2048 }
         requires room { 16384 ≤ length work.old }
-        ensures { told result ≡ conflicting (numbers self.entry.set.names.pool.now self.entry.set.names.table.now) (standing stands.now 0 self.entry.set.all.trees.0) }
+        ensures { let names = self.entry.set.names in
+            told result ≡ conflicting (numbers names.pool.now names.table.now) (standing stands.now 0 self.entry.set.all.trees.0) }
     {
         let set = self.set.all;
         let mut tested = [0u32; RECORD_WORDS];
@@ -169,7 +170,8 @@ impl<'a> Lines<'a> {
         requires long { length stands.old ≡ 2048 }
         requires whole { On from to stands.old }
         requires room { 16384 ≤ length work.old }
-        ensures { LeftOut self.entry.set.all.trees.0 (numbers self.entry.set.names.pool.now self.entry.set.names.table.now) halvings from to stands.old stands.new result }
+        ensures { let names = self.entry.set.names in
+            LeftOut self.entry.set.all.trees.0 (numbers names.pool.now names.table.now) halvings from to stands.old stands.new result }
     {
         switch(stands, from, to, false);
         if self.is_refused(stands, work)? {
@@ -188,7 +190,8 @@ impl<'a> Lines<'a> {
     fn find(self, res: &mut [u32], work: &mut [u32]) -> Result<Option<usize>, Refusal>
         requires result_room { 8192 ≤ length res.old }
         requires room { 16384 ≤ length work.old }
-        ensures { FoundAs (conflictIn (numbers self.entry.set.names.pool.now self.entry.set.names.table.now) self.entry.set.all.trees.0) res.old res.new result }
+        ensures { let names = self.entry.set.names in
+            FoundAs (conflictIn (numbers names.pool.now names.table.now) self.entry.set.all.trees.0) res.old res.new result }
     {
         let mut stands = [true; RECORDS];
         if !self.is_refused(&stands, work)? {

@@ -9,7 +9,7 @@ use Rattle.rules.specs.declared.Refusal.{Refusal}
 use Rattle.solve_round.specs.declared.After.{After}
 use Rattle.solve_round.specs.declared.Place.{Place}
 use Rattle.solve_round.specs.States.{Placed, Rounded}
-use Rattle.solve.specs.Running.{begun-state, going-first, going-here, going-written, going_end, going-stop, finish-answers, stop-answers}
+use Rattle.solve.specs.Running.{going-first, going-here, going-written, going_end, going-stop, finish-answers, stop-answers}
 use Rattle.solve.proofs.inner.run.Goals as goal
 
 -- a buffer that is lent on whole is all of its words
@@ -31,16 +31,21 @@ whole-near l h = rw (take-length l) (omega (arith, h))
 whole-room : (l : List ℕ) → length l ≡ 8192 → 8192 ≤ length (take (length l) l)
 whole-room l h = rw (take-length l) (omega (arith, h))
 
+pub begin-place-requires : goal.begin-place-requires
+begin-place-requires c =
+    let (cs, h) = c.requires.begun in
+    record { short = h.short; room = whole-room c.split_at_mut-state.result.0.now (omega (arith, c.split_at_mut-state.ensures.front_len)) }
+
 pub turns-init : goal.turns-init
 turns-init c =
     let front = c.split_at_mut-state.result.0.now in
     let long : length front ≡ 8192 = omega (arith, c.split_at_mut-state.ensures.front_len) in
     let behind : length c.split_at_mut-next.result.0.now ≡ 8192 = omega (arith, c.split_at_mut-next.ensures.front_len) in (
       refl,
-      rw (handed front c.copy.new.dst) (c.copy.auto.dst ∙ ap length (take-length front) ∙ long),
+      rw (handed front c.begin-place.new.state) (c.begin-place.auto.state ∙ ap length (take-length front) ∙ long),
       behind,
       refl,
-      λ cs h. rw (handed front c.copy.new.dst) (going-first _ _ cs _ _ (begun-state _ _ _ _ _ _ cs h refl (whole-room front long) c.copy.ensures)),
+      λ cs h. rw (handed front c.begin-place.new.state) (going-first _ _ cs _ _ (c.begin-place.ensures _ _ cs h)),
     )
 
 pub round-requires : goal.round-requires
@@ -57,20 +62,11 @@ round-requires c =
       near = whole-near c.turns.next.now n;
     }
 
-pub overflow_add-completed : goal.overflow_add-completed
-overflow_add-completed c = let (cs, h) = c.requires.begun in
-    let g = c.turns.invariant.4 cs h in
-    let t = going-here _ _ c.args.names.good cs h.admitted _ _ _ _ g _
-    (round-whole c.turns.state.now (c.round.ensures g.state (whole c.turns.state.now g.held))) _ (c.in-Ok-Read.is ∙ ap Ok c.in-Ok-Read.field-0-is) in
-    omega (arith, t.1)
+pub overflow_add-rounds : goal.overflow_add-rounds
+overflow_add-rounds c = let (cs, h) = c.requires.begun in omega (arith, (c.turns.invariant.4 cs h).sum)
 
 pub turns-smaller-in-Ok-Read : goal.turns-smaller-in-Ok-Read
-turns-smaller-in-Ok-Read c =
-    let (cs, h) = c.requires.begun in
-    let g = c.turns.invariant.4 cs h in
-    let t = going-here _ _ c.args.names.good cs h.admitted _ _ _ _ g _
-    (round-whole c.turns.state.now (c.round.ensures g.state (whole c.turns.state.now g.held))) _ (c.in-Ok-Read.is ∙ ap Ok c.in-Ok-Read.field-0-is) in
-    omega (arith, t.1)
+turns-smaller-in-Ok-Read c = let (cs, h) = c.requires.begun in omega (arith, (c.turns.invariant.4 cs h).sum)
 
 pub turns-preserved-in-Ok-Read : goal.turns-preserved-in-Ok-Read
 turns-preserved-in-Ok-Read c =
@@ -82,25 +78,15 @@ turns-preserved-in-Ok-Read c =
       c.round.auto.new ∙ w,
       λ cs h.
           let g = i cs h in
-          (going-here _ _ c.args.names.good cs h.admitted _ _ _ _ g _ (round-whole c.turns.state.now (c.round.ensures g.state (whole c.turns.state.now g.held)))
-          _ (c.in-Ok-Read.is ∙ ap Ok c.in-Ok-Read.field-0-is)).0,
+          going-here _ _ c.args.names.good cs h.admitted _ _ _ _ g _ (round-whole c.turns.state.now (c.round.ensures g.state (whole c.turns.state.now g.held))) _
+          (c.in-Ok-Read.is ∙ ap Ok c.in-Ok-Read.field-0-is),
     )
 
-pub overflow_add-completed-in-Ok-Written : goal.overflow_add-completed-in-Ok-Written
-overflow_add-completed-in-Ok-Written c =
-    let (cs, h) = c.requires.begun in
-    let g = c.turns.invariant.4 cs h in
-    let t = going-written _ _ c.args.names.good cs h.admitted _ _ _ _ g _
-    (round-whole c.turns.state.now (c.round.ensures g.state (whole c.turns.state.now g.held))) _ (c.in-Ok-Written.is ∙ ap Ok c.in-Ok-Written.field-0-is) in
-    omega (arith, t.1)
+pub overflow_add-rounds-in-Ok-Written : goal.overflow_add-rounds-in-Ok-Written
+overflow_add-rounds-in-Ok-Written c = let (cs, h) = c.requires.begun in omega (arith, (c.turns.invariant.4 cs h).sum)
 
 pub turns-smaller : goal.turns-smaller
-turns-smaller c =
-    let (cs, h) = c.requires.begun in
-    let g = c.turns.invariant.4 cs h in
-    let t = going-written _ _ c.args.names.good cs h.admitted _ _ _ _ g _
-    (round-whole c.turns.state.now (c.round.ensures g.state (whole c.turns.state.now g.held))) _ (c.in-Ok-Written.is ∙ ap Ok c.in-Ok-Written.field-0-is) in
-    omega (arith, t.1)
+turns-smaller c = let (cs, h) = c.requires.begun in omega (arith, (c.turns.invariant.4 cs h).sum)
 
 pub turns-preserved : goal.turns-preserved
 turns-preserved c =
@@ -115,7 +101,7 @@ turns-preserved c =
           rw (c.swap.ensures.x_after, handed next c.round.new.next)
           (going-written _ _ c.args.names.good cs h.admitted _ _ _ _ g _
           (round-whole c.turns.state.now (c.round.ensures g.state (whole c.turns.state.now g.held))) _
-          (c.in-Ok-Written.is ∙ ap Ok c.in-Ok-Written.field-0-is)).0,
+          (c.in-Ok-Written.is ∙ ap Ok c.in-Ok-Written.field-0-is)),
     )
 
 pub finish-requires : goal.finish-requires

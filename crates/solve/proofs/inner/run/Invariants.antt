@@ -1,4 +1,4 @@
-use Rattle.std.proofs.Common.{◌≡◌, List, ℕ, ◌-◌, length}
+use Rattle.std.proofs.Common.{◌≡◌, List, ℕ, suc, ◌-◌, length}
 use Rattle.rules.specs.Solving.{enough}
 use Rattle.rules.specs.Trees.{Con}
 use Rattle.solve.specs.Running.{Begun, Going}
@@ -11,7 +11,7 @@ invariant-turns l =
     × (length l.next ≡ 8192)
     × (length l.new ≡ 8192)
     × ((cs : List (Con ℕ)) → Begun l.names.pool.now l.names.table.now l.set cs
-    → Going l.names.pool.now l.names.table.now cs l.state l.place l.completed)
+    → Going l.names.pool.now l.names.table.now cs l.state l.place l.rounds)
 
 abbrev pub decreases-turns : goal.decreases-turns
-decreases-turns l = enough - l.completed
+decreases-turns l = suc enough - l.rounds

@@ -27,8 +27,8 @@ leave_out-requires-clause-whole c = all-on _ (omega (arith, few c.args.self.set.
 pub returns-in_err-leave_out : goal.returns-in_err-leave_out
 returns-in_err-leave_out c =
     let p = err_from_is_err_and c.from_residual-in_err-leave_out.result c.from_residual-in_err-leave_out.ensures.1 in
-    rw (p.1, p.2) (find-stopped _ c.args.self.set.all.trees.0 (omega (arith, few c.args.self.set.all.trees.0, c.args.self.set.fine.small)) _ c.is_refused.ensures
-    (c.in_ok-is_refused.was ∙ ap Ok c.if-not-branch.false) _ c.count-n.ensures _ _ c.leave_out.ensures _ _ c.in_err-leave_out.was)
+    rw (p.1, p.2) (find-stopped _ c.args.self.set.all.trees.0 (omega (arith, few c.args.self.set.all.trees.0, c.args.self.set.fine.small)) _
+    c.is_refused.ensures (c.in_ok-is_refused.was ∙ ap Ok c.if-not-branch.false) _ c.count-n.ensures _ _ c.leave_out.ensures _ _ c.in_err-leave_out.was)
 
 pub put_places-requires-clause-few : goal.put_places-requires-clause-few
 put_places-requires-clause-few c = omega (arith, few c.args.self.set.all.trees.0, c.args.self.set.fine.small)
