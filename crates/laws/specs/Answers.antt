@@ -1,10 +1,11 @@
--- How long the answer of solving is, as words.
-use Rattle.std.specs.Prelude.{◌≡◌, refl, List, ◌++◌, map, ℕ, ◌+◌, ◌*◌, length}
-use Rattle.std.proofs.Common.{ap, ap₂, ◌∙◌, length-append}
+-- How long the answer of solving is, as words, and words at the front of a buffer.
+use Rattle.std.specs.Prelude.{◌≡◌, refl, List, ◌++◌, map, ℕ, ◌+◌, ◌*◌, ◌≤◌, length, drop}
+use Rattle.std.proofs.Common.{ap, ap₂, ◌∙◌, arith, zero-add, length-append}
 use Rattle.std.proofs.lemmas.List.{length-map}
+use Rattle.std.proofs.lemmas.List.Edits.{sets, sets-eq}
 use Rattle.rules.specs.Base.{Got, got, refused, collect, sum_of}
 use Rattle.rules.specs.Batches.{answeredWords, recordsOf, fourWords}
-use Rattle.rules.specs.Calls.{Solved, solved, unsolved, refusedAfter, solvedOf, solvedWords}
+use Rattle.rules.specs.Calls.{over, Solved, solved, unsolved, refusedAfter, solvedOf, solvedWords}
 use Rattle.rules.specs.Solving.{Answer, accepted, remaining, stopped}
 use Rattle.rules.specs.Trees.{var, Binding, sizeBinding}
 use Rattle.rules.specs.Writing.{writeBinding, writeBound, writeCon}
@@ -17,7 +18,12 @@ words_of a = answeredWords (solvedWords a)
 abbrev pub manyOf : Got (Answer ℕ) → ℕ
 manyOf a = recordsOf (solvedOf a)
 
-records-length : (bs : List (Binding ℕ)) (ns : List ℕ)
+-- in a buffer that has room for them
+pub over-is : (ws b : List ℕ) → length ws ≤ length b → sets b 0 ws ≡ over ws b
+unfolding over
+over-is ws b h = sets-eq ws b 0 (omega arith) ∙ ap (λ (k : ℕ). ws ++ drop k b) (zero-add (length ws))
+
+pub records-length : (bs : List (Binding ℕ)) (ns : List ℕ)
     → length (collect writeBinding bs ++ map (λ n. writeBound (var n)) ns) ≡ sum_of sizeBinding bs + length ns
 records-length bs ns = length-append (collect writeBinding bs) (map (λ n. writeBound (var n)) ns)
     ∙ ap₂ ◌+◌ (bindings-length bs) (length-map ns (λ n. writeBound (var n)))

@@ -3,6 +3,7 @@ use Rattle.std.specs.Prelude.{◌≡◌, ◌⊎◌, true, false, List, [], ◌�
 use Rattle.std.proofs.Math.Path.{refl}
 use Rattle.std.proofs.Common.{sym, ◌∙◌, ap, inl, inr, arith, eqb-true, leb-false, eq-eqb}
 use Prim.Native.Nat.{ℕ, compare, ◌<◌, Ordering}
+use native.Mathlib.Omega.{compare-lt}
 use Rattle.std.proofs.Math.Decide.{dec_lt}
 use Rattle.std.proofs.lemmas.Bool.{lt-leb}
 use Rattle.std.proofs.Math.Dec.{is_le, compare_is_eq}
@@ -105,16 +106,8 @@ numbers-lawful = record { turn = flip; trans = less; alike = λ a b c h. ap (λ 
         go (equal h) = compare-equal b a (sym h) ∙ ap turned (sym (compare-equal a b h))
         go (above h) = compare-below b a h ∙ ap turned (sym (compare-above a b h))
 
-    below_of : (a b : ℕ) → compare a b ≡ Ordering.lt → a < b
-    below_of a b h = go (way a b)
-      where
-        go : Way a b → a < b
-        go (below k) = k
-        go (equal k) = let z : ◌≡◌ {A = ℕ} 0 1 = cc (compare-equal a b k) in absurd (omega arith)
-        go (above k) = let z : ◌≡◌ {A = ℕ} 0 1 = cc (compare-above a b k) in absurd (omega arith)
-
     less : (a b c : ℕ) → compare a b ≡ Ordering.lt → compare b c ≡ Ordering.lt → compare a c ≡ Ordering.lt
-    less a b c h k = let p = below_of a b h in let q = below_of b c k in compare-below a c (omega arith)
+    less a b c h k = compare-below a c (omega (arith, compare-lt a b h, compare-lt b c k))
 
 -- ══ Byte strings ══
 

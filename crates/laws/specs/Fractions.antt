@@ -3,7 +3,7 @@ use Rattle.std.specs.Prelude.{◌≡◌, refl, true, ℕ, zero, suc, ◌*◌, �
 use Rattle.std.proofs.Common.{ap, ◌∙◌, sym, subst, mul_comm, mul_assoc, mul_left_comm, mul-one, mul-pos, div-one, arith, eqb-true}
 use Rattle.std.proofs.Math.Path.{ap₂}
 use Rattle.std.proofs.Math.Option.{none, some}
-use Rattle.std.proofs.Math.Nat.{mul-div-mul_left, zero-div, mul-div_cancel'}
+use Rattle.std.proofs.Math.Nat.{mul-mul-mul_comm, mul-div-mul_left, zero-div, mul-div_cancel'}
 use Rattle.std.proofs.Math.IntN.{pos, neg_ℤ-neg_ℤ, +ℤ_idr, +ℤ_invr, +ℤ_assoc, +ℤ_comm, zero-*ℤ, *ℤ_comm, *ℤ-zero}
 use Rattle.rules.specs.Exponents.{Exp, frac, gcdIn, gcd, lowest, nought, one, neg, plus, mul, inverted, isZero}
 use Rattle.laws.specs.Gcd.{is-gcd, gcd-pos, gcd-comm, gcd-scale, coprime}
@@ -74,9 +74,6 @@ parts (negsuc n) d h = record {
   below = sym (mul-div_cancel' (gcd (suc n) d) (is-gcd (suc n) d).right);
 }
 
-four-ℕ : (a b c d : ℕ) → a * b * (c * d) ≡ a * c * (b * d)
-four-ℕ a b c d = mul_assoc a b (c * d) ∙ ap (a *◌) (mul_left_comm b c d) ∙ sym (mul_assoc a c (b * d))
-
 factor-pos : (g d : ℕ) → 0 < g * d → 0 < d
 factor-pos g zero h = absurd (omega arith)
 factor-pos g (suc d) h = omega arith
@@ -143,13 +140,13 @@ module _ (n m : ℤ) (d e g h : ℕ) (n' m' : ℤ) (d' e' : ℕ) (gp : 0 < g) (h
       ∙ ap₂ lowest
       (distrib-left (pos (g * h)) (n' *ℤ pos e') (m' *ℤ pos d')
       ∙ ap₂ ◌+ℤ◌ (four (pos g) (pos h) n' (pos e')) (ap (◌*ℤ (m' *ℤ pos d')) (*ℤ_comm (pos g) (pos h)) ∙ four (pos h) (pos g) m' (pos d')))
-      (four-ℕ g h d' e'))
+      (mul-mul-mul_comm g h d' e'))
 
   product-scaled : lowest (n' *ℤ m') (d' * e') ≡ lowest (n *ℤ m) (d * e)
   product-scaled =
       rw (nt, dt, mt, et)
       (sym (lowest-scale (g * h) (n' *ℤ m') (d' * e') (mul-pos gp hp))
-      ∙ ap₂ lowest (four (pos g) (pos h) n' m') (four-ℕ g h d' e'))
+      ∙ ap₂ lowest (four (pos g) (pos h) n' m') (mul-mul-mul_comm g h d' e'))
 
 module _ (n m : ℤ) (d e : ℕ) (h : 0 < d) (i : 0 < e) where
   pub plus-lowest : plus (lowest n d) (lowest m e) ≡ lowest (n *ℤ pos e +ℤ m *ℤ pos d) (d * e)

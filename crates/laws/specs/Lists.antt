@@ -1,12 +1,13 @@
 -- Lists and tests: what is in a list, and what a test says of it.
-use Rattle.std.specs.Prelude.{◌≡◌, Bool, not, ◌&&◌, ◌||◌, ◌⊎◌, ℕ}
+use Rattle.std.specs.Prelude.{◌≡◌, Bool, not, ◌&&◌, ◌||◌, ◌⊎◌, ℕ, suc, length}
 use Rattle.std.proofs.Math.Path.{refl, ap}
 use Rattle.std.proofs.Common.{◌∙◌, sym, inl, inr, arith}
 use Rattle.std.proofs.Math.Bool.{true, false, or-true}
 use Rattle.std.proofs.Math.Option.{Option, none, some}
 use mathlib.Core.List.Memᴰ
-use mathlib.Core.List.{List, [], ◌∷◌, ◌++◌, map, Memᴰ}
-use Rattle.rules.specs.Base.{Got, got, refused, ◌>>=◌, allow, is_yes, any, all, each, collect, to_list}
+use mathlib.Core.List.{List, [], ◌∷◌, ◌++◌, map, Memᴰ, cons≢nil}
+use Rattle.rules.specs.Base.{Got, got, refused, ◌>>=◌, allow, is_yes, any, all, each, keep, collect, to_list}
+pub use Rattle.std.proofs.lemmas.Bool.{not-true, not-false}
 
 pub true≢false : true ≡ false → ⊥
 true≢false e = let z : ◌≡◌ {A = ℕ} 0 1 = cc in omega arith
@@ -49,14 +50,6 @@ and_right false b h = cc
 pub and_both : {a b : Bool} → a ≡ true → b ≡ true → (a && b) ≡ true
 and_both p q = rw (p, q)
 
-pub not-true : (a : Bool) → not a ≡ true → a ≡ false
-not-true true e = absurd (true≢false (sym e))
-not-true false e = refl
-
-pub not-false : (a : Bool) → not a ≡ false → a ≡ true
-not-false true e = refl
-not-false false e = absurd (true≢false e)
-
 pub yes-is : {A : Type 0} (d : Dec A) → is_yes d ≡ true → A
 yes-is (yes a) e = a
 yes-is (no f) e = absurd (true≢false (sym e))
@@ -97,6 +90,16 @@ module _ {A : Type 0} where
       go : Memᴰ a xs ⊎ Memᴰ a ys → P a
       go (inl i) = p a i
       go (inr i) = q a i
+
+  -- none is kept: none passes
+  pub keep-none : (p : A → Bool) (xs : List A) → keep p xs ≡ [] → All (λ a. p a ≡ false) xs
+  unfolding keep
+  keep-none p [] e = all_nil (λ a. p a ≡ false)
+  keep-none p (x ∷ xs) e = go (p x) refl (keep-none p xs)
+    where
+      go : (b : Bool) → p x ≡ b → (keep p xs ≡ [] → All (λ a. p a ≡ false) xs) → All (λ a. p a ≡ false) (x ∷ xs)
+      go true i r = let z : x ∷ keep p xs ≡ [] = rw (i, keep) at e in absurd (cons≢nil z)
+      go false i r = all_cons (λ a. p a ≡ false) i (r (rw (i, keep) at e))
 
   -- every one of a list, by recursion: for what goes through the list
   abbrev pub Every : (A → Type 0) → List A → Type 0
@@ -248,6 +251,11 @@ module _ {A B : Type 0} (f : A → Got B) where
   pub each-parts : (x : A) (xs : List A) (ys : List B) → each f (x ∷ xs) ≡ got ys → Two (f x) (λ y. each f xs) ys (λ y zs. y ∷ zs)
   unfolding each
   each-parts x xs ys e = two_steps (f x) (λ y. each f xs) (λ y zs. y ∷ zs) ys e
+
+  pub each-length : (xs : List A) (ys : List B) → each f xs ≡ got ys → length ys ≡ length xs
+  unfolding each
+  each-length [] ys e = let z : [] ≡ ys = cc in rw (← z)
+  each-length (x ∷ xs) ys e = let t = each-parts x xs ys e in rw (← t.both) (ap suc (each-length xs t.second t.then))
 
   pub each-went : (xs : List A) (ys : List B) → each f xs ≡ got ys → (a : A) → Memᴰ a xs → Went f a ys
   each-went [] ys e a m = absurd (Memᴰ.not-nil m)

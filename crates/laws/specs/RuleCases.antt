@@ -233,7 +233,7 @@ or-else : {A : Type 0} (a b : Option A) (v : A) → (a or_else b) ≡ some v →
 or-else none b v e = inr e
 or-else (some a) b v e = inl e
 
-or-none : {A : Type 0} (a b : Option A) → (a or_else b) ≡ none → (a ≡ none) × (b ≡ none)
+pub or-none : {A : Type 0} (a b : Option A) → (a or_else b) ≡ none → (a ≡ none) × (b ≡ none)
 or-none none b e = (refl, e)
 or-none (some a) b e = absurd (some≢none e)
 

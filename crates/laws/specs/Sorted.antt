@@ -27,6 +27,11 @@ module _ {N : Type 0} (ν : Names N) where
   Sorted [] = Unit {0}
   Sorted (a ↑ e ∷ p) = Before a p × Sorted p
 
+  pub merge-nil : (l : Limits) (p : Product N) → merge ν l p [] ≡ got p
+  unfolding merge mergeOne
+  merge-nil l [] = refl
+  merge-nil l (a ↑ e ∷ p) = refl
+
 module _ {N : Type 0} (ν : Names N) (law : Lawful (orderAtom ν)) where
   pub sooner : (a b : Atom N) (p : Product N) → orderAtom ν a b ≡ Ordering.lt → Before ν b p → Before ν a p
   sooner a b p h k = every-as (λ f. law.trans a b (atomOf f) h) p k

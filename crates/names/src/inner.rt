@@ -181,8 +181,8 @@ fn all_distinct(pool: &[u8], table: &[u32]) -> bool
 
 /// Is the table well formed?
 pub fn is_good(pool: &[u8], table: &[u32]) -> bool
-    requires in_bounds { 8192 ≤ length pool.now }
-    requires in_bounds_2 { 257 ≤ length table.now }
+    requires pool_long { 8192 ≤ length pool.now }
+    requires table_long { 257 ≤ length table.now }
     ensures { result ≡ tableGood (table_of pool.now table.now) }
 {
     if NAMES < table[0] as usize || !lengths_good(table) {

@@ -127,8 +127,8 @@ fn counted(p: Product) -> Result<Product, Refusal>
 
 // Merges the two lists, adds exponents and drops zeros.
 pub fn multiplied(a: &Product, b: &Product, names: NameTable) -> Result<Product, Refusal>
-    requires well { Well names.pool.now names.table.now a.now }
-    requires well_2 { Well names.pool.now names.table.now b.now }
+    requires left { Well names.pool.now names.table.now a.now }
+    requires right { Well names.pool.now names.table.now b.now }
     ensures { toldBy given result ≡
         answer (multiply (numbersOf (table_of names.entry.pool.now names.entry.table.now)) bounded (productOf a.now) (productOf b.now)) }
 {
@@ -192,8 +192,8 @@ pub fn raised(a: &Product, e: Exponent) -> Result<Product, Refusal>
 
 // Multiplies by the inverse.
 pub fn divided(a: &Product, b: &Product, names: NameTable) -> Result<Product, Refusal>
-    requires well { Well names.pool.now names.table.now a.now }
-    requires well_2 { Well names.pool.now names.table.now b.now }
+    requires left { Well names.pool.now names.table.now a.now }
+    requires right { Well names.pool.now names.table.now b.now }
     ensures { toldBy given result ≡
         answer (divide (numbersOf (table_of names.entry.pool.now names.entry.table.now)) bounded (productOf a.now) (productOf b.now)) }
 {

@@ -54,11 +54,9 @@ lent-stopped : {A : Type 0} (l r a : Got (Unit {0})) (m : Got A) (f : A → Got 
 unfolding listing resultAfter
 lent-stopped (got u) r a m f n result e g h = rw (e, stopped a m f n h)
 lent-stopped (refused j) r a m f n result e g h =
-    let q : j ≡ n = same j n (ap (λ (x : Got (Unit {0})). x >> m >> got (tt {0})) (sym (g j refl)) ∙ h) in
-    rw q
-  where
-    same : (j n : ℕ) → ◌≡◌ {A = Got (Unit {0})} (refused j) (refused n) → j ≡ n
-    same j n q = cc
+    let q : ◌≡◌ {A = Got (Unit {0})} (refused j) (refused n) = ap (λ (x : Got (Unit {0})). x >> m >> got (tt {0})) (sym (g j refl)) ∙ h in
+    let i : j ≡ n = cc in
+    rw i
 
 -- a name among those of the kind that is asked for
 names-said : (pool table : List ℕ) (x : ℕ) (p : Bool) (t : Ty ℕ) → any (eqb x) (choose (kind_of p) (opens t)) ≡ containsName (numbers pool table) p x t

@@ -25,6 +25,7 @@ use Rattle.std.specs.Prelude.{
   drop,
   replicate,
 }
+use Rattle.std.proofs.lemmas.Bool.{false_from_ne_true}
 use Rattle.std.proofs.Common.{
   sym,
   ap,
@@ -194,11 +195,7 @@ unmixed-marks os v p a b h names = go (disjoint v p) refl
     go : (c : Bool) → disjoint v p ≡ c → disjoint v p ≡ all (λ x. not (among (numbered names) x (parametersIn os))) (variablesIn os)
     go true e = e ∙ sym (all-each _ (variablesIn os) (λ x k.
         let l : x < 256 = in-every _ (variablesIn os) (chosen-below 256 Variables os h) x (any-in x (variablesIn os) k) in
-        ap not (same-eqb names x (parametersIn os) ∙ sym (b.each x l) ∙ no (get_or p x false) (λ f. never v p e x (a.each x l ∙ k) f))))
-      where
-        no : (c : Bool) → (c ≡ true → ⊥) → c ≡ false
-        no true f = absurd (f refl)
-        no false f = refl
+        ap not (same-eqb names x (parametersIn os) ∙ sym (b.each x l) ∙ false_from_ne_true (get_or p x false) (λ f. never v p e x (a.each x l ∙ k) f))))
     go false e =
         let (x, l, i, j) = once v p e in
         let l' : x < 256 = omega (arith, a.long) in

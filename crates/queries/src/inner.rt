@@ -155,7 +155,7 @@ pub fn list_names(
     out: &mut [u32],
 ) -> usize
     requires every { Every (λ x. x < get_or names.table.now 0 0) (choose k (opensIn s.now b e)) }
-    requires in_bounds { 256 ≤ length out.old }
+    requires room { 256 ≤ length out.old }
     ensures { Filled (sort (numbers names.entry.pool.now names.entry.table.now) (choose k (opensIn s.now b e))) result out.old out.new }
 {
     let mut found = NameSet::new();

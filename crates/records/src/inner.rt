@@ -59,9 +59,9 @@ fn put_all(dst: &mut [u32], i: usize, v: &[u32])
 
 // Copies the records from b up to e, as far as the buffer goes.
 pub fn copy(v: &[u32], b: usize, e: usize, dst: &mut [u32], out: usize)
-    requires b_le_e { b ≤ e }
-    requires e_in_bounds { e * 4 ≤ length v.now }
-    requires b_bound { out + (e - b) < 2 ^ 60 }
+    requires order { b ≤ e }
+    requires within { e * 4 ≤ length v.now }
+    requires near { out + (e - b) < 2 ^ 60 }
     ensures { dst.new ≡ sets dst.old (out * 4) (slice (b * 4) (e * 4) v.now) }
 {
     put_all(dst, out * 4, &v[b * 4..e * 4]);

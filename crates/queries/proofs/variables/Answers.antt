@@ -22,7 +22,7 @@ invariant_of-names c =
 pub list_names-requires : goal.list_names-requires
 list_names-requires c =
     let (t, k) = typed _ _ _ (record { word = λ i. (c.type_inv.words i).fits }) (sym c.in_ok-is_type.ensures) in
-    record { every = typed-held _ _ _ t k c.kind_of.result; in_bounds = omega (arith, c.if-res-lt-RECORD_WORDS.false) }
+    record { every = typed-held _ _ _ t k c.kind_of.result; room = omega (arith, c.if-res-lt-RECORD_WORDS.false) }
 
 pub returns : goal.returns
 returns c =

@@ -24,7 +24,7 @@ returns-then-words-gt-RECORD_WORDS c = simp
     (le-leb _ _ c.if-pool-lt-POOL_BYTES.false, le-leb _ _ c.if-table-lt-TABLE_WORDS.false, lt-leb _ _ c.if-words-gt-RECORD_WORDS.true)
 
 pub is_good-requires : goal.is_good-requires
-is_good-requires c = record { in_bounds = c.if-pool-lt-POOL_BYTES.false; in_bounds_2 = c.if-table-lt-TABLE_WORDS.false }
+is_good-requires c = record { pool_long = c.if-pool-lt-POOL_BYTES.false; table_long = c.if-table-lt-TABLE_WORDS.false }
 
 pub returns-then-is_good : goal.returns-then-is_good
 unfolding aloneGiven lentTable shortLists tableKept all

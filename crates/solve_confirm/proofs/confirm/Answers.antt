@@ -31,8 +31,8 @@ records-requires c =
     small (table_of c.args.pool.now c.args.table.now) c.args.set.now _ _ (toldBy is_none c.solve_and_judge.result.verdict) _ _ answered judged
     c.ruled-solution.ensures k
 
-pub copy-requires-clause-e_in_bounds : goal.copy-requires-clause-e_in_bounds
-copy-requires-clause-e_in_bounds c =
+pub copy-requires-clause-within : goal.copy-requires-clause-within
+copy-requires-clause-within c =
     let enough : Long c.args.pool.now c.args.table.now c.args.res.now c.args.work.now =
     long _ _ _ _ c.lent.result c.lent.ensures (ap not c.if-not-lent.false) in
     let n = c.new-names.ensures in
@@ -42,8 +42,8 @@ copy-requires-clause-e_in_bounds c =
     let s = small (table_of c.args.pool.now c.args.table.now) c.args.set.now _ _ (toldBy is_none c.solve_and_judge.result.verdict) _ _ answered judged c.ruled-solution.ensures k in
     omega (arith, c.records.ensures, s, k)
 
-pub copy-requires-clause-b_bound : goal.copy-requires-clause-b_bound
-copy-requires-clause-b_bound c =
+pub copy-requires-clause-near : goal.copy-requires-clause-near
+copy-requires-clause-near c =
     let enough : Long c.args.pool.now c.args.table.now c.args.res.now c.args.work.now =
     long _ _ _ _ c.lent.result c.lent.ensures (ap not c.if-not-lent.false) in
     let n = c.new-names.ensures in

@@ -7,7 +7,7 @@ pub copy-requires : goal.copy-requires
 copy-requires c =
     let (look, t) = c.requires in
     let k = place-known _ _ look _ t (c.look_up.ensures look t) c.in-Some.is in
-    record { b_le_e = k.0; e_in_bounds = k.1; b_bound = omega (arith, k.2) }
+    record { order = k.0; within = k.1; near = omega (arith, k.2) }
 
 pub overflow_sub-result : goal.overflow_sub-result
 overflow_sub-result c =

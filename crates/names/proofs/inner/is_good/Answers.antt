@@ -20,7 +20,7 @@ returns-then-table-gt-NAMES c =
 pub all_distinct-requires : goal.all_distinct-requires
 all_distinct-requires c =
     let few : get_or c.args.table.now 0 0 ≤ 256 = omega arith in
-    record { bytes = c.requires.in_bounds; words = c.requires.in_bounds_2; few = few; rising = sym c.lengths_good.ensures ∙ c.if-not-lengths_good.false }
+    record { bytes = c.requires.pool_long; words = c.requires.table_long; few = few; rising = sym c.lengths_good.ensures ∙ c.if-not-lengths_good.false }
 
 pub returns : goal.returns
 returns c =

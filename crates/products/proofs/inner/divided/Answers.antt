@@ -4,11 +4,11 @@ use Rattle.products.specs.Held.{well-sound, inverse-well}
 use Rattle.products.proofs.inner.divided.Goals as goal
 
 pub inverted-requires : goal.inverted-requires
-inverted-requires c = well-sound c.requires.well_2
+inverted-requires c = well-sound c.requires.right
 
 pub multiplied-requires : goal.multiplied-requires
-multiplied-requires c = record { well = c.requires.well; well_2 = (inverse-well _ _ _ _ c.requires.well_2 c.inverted.ensures).well }
+multiplied-requires c = record { left = c.requires.left; right = (inverse-well _ _ _ _ c.requires.right c.inverted.ensures).well }
 
 pub returns : goal.returns
 unfolding divide
-returns c = rw (inverse-well _ _ _ _ c.requires.well_2 c.inverted.ensures).is c.multiplied.ensures
+returns c = rw (inverse-well _ _ _ _ c.requires.right c.inverted.ensures).is c.multiplied.ensures

@@ -65,10 +65,10 @@ pub loop-i-init : goal.loop-i-init
 loop-i-init c = (omega arith, omega arith, doing-start _ _ c.scalar-out.ensures)
 
 pub order-requires : goal.order-requires
-order-requires c = record { left = c.requires.well.each c.loop-i.i (omega arith); right = c.requires.well_2.each c.loop-i.j c.if-j-n.true }
+order-requires c = record { left = c.requires.left.each c.loop-i.i (omega arith); right = c.requires.right.each c.loop-i.j c.if-j-n.true }
 
 pub push-requires : goal.push-requires
-push-requires c = omega (arith, doing-len c.loop-i.invariant.2, c.requires.well.few, c.requires.well_2.few)
+push-requires c = omega (arith, doing-len c.loop-i.invariant.2, c.requires.left.few, c.requires.right.few)
 
 pub loop-i-preserved-in-Less : goal.loop-i-preserved-in-Less
 loop-i-preserved-in-Less c =
@@ -80,12 +80,12 @@ loop-i-preserved-in-Less c =
       omega arith,
       rw c.push.ensures
           (doing-put c.loop-i.invariant.2 (factorAt c.args.a.now i) (tree_of (factorAt c.args.a.now i)) _ _
-          (value-back (factorAt c.args.a.now i) (c.requires.well.each i h).kind) step
-          (less c.requires.well c.requires.well_2 i j h c.if-j-n.true (sym c.order.ensures ∙ ap toldOrder c.in-Less.is))),
+          (value-back (factorAt c.args.a.now i) (c.requires.left.each i h).kind) step
+          (less c.requires.left c.requires.right i j h c.if-j-n.true (sym c.order.ensures ∙ ap toldOrder c.in-Less.is))),
     )
 
 pub push-requires-in-Greater : goal.push-requires-in-Greater
-push-requires-in-Greater c = omega (arith, doing-len c.loop-i.invariant.2, c.requires.well.few, c.requires.well_2.few)
+push-requires-in-Greater c = omega (arith, doing-len c.loop-i.invariant.2, c.requires.left.few, c.requires.right.few)
 
 pub loop-i-preserved-in-Greater : goal.loop-i-preserved-in-Greater
 loop-i-preserved-in-Greater c =
@@ -97,13 +97,13 @@ loop-i-preserved-in-Greater c =
       omega arith,
       rw c.push-in-Greater.ensures
           (doing-put c.loop-i.invariant.2 (factorAt c.args.b.now j) (tree_of (factorAt c.args.b.now j)) _ _
-          (value-back (factorAt c.args.b.now j) (c.requires.well_2.each j c.if-j-n.true).kind) step
-          (more c.requires.well c.requires.well_2 i j h c.if-j-n.true (sym c.order.ensures ∙ ap toldOrder c.in-Greater.is))),
+          (value-back (factorAt c.args.b.now j) (c.requires.right.each j c.if-j-n.true).kind) step
+          (more c.requires.left c.requires.right i j h c.if-j-n.true (sym c.order.ensures ∙ ap toldOrder c.in-Greater.is))),
     )
 
 pub sum_of-requires : goal.sum_of-requires
 sum_of-requires c =
-    (stored-good _ (c.requires.well.each c.loop-i.i (omega arith)).stored, stored-good _ (c.requires.well_2.each c.loop-i.j c.if-j-n.true).stored)
+    (stored-good _ (c.requires.left.each c.loop-i.i (omega arith)).stored, stored-good _ (c.requires.right.each c.loop-i.j c.if-j-n.true).stored)
 
 pub returns-in_err-e-in-Equal : goal.returns-in_err-e-in-Equal
 unfolding answer
@@ -111,11 +111,11 @@ returns-in_err-e-in-Equal c =
     let p = err_from_is_err_and c.from_residual.result c.from_residual.ensures.1 in
     rw (p.1, p.2)
     (sym (ap answer (multiply-refused (numbersOf (table_of c.args.names.pool.now c.args.names.table.now)) _ _ _ (doing-stop c.loop-i.invariant.2 _
-    (same c.requires.well c.requires.well_2 c.loop-i.i c.loop-i.j (omega arith) c.if-j-n.true (sym c.order.ensures ∙ ap toldOrder c.in-Equal.is) _
+    (same c.requires.left c.requires.right c.loop-i.i c.loop-i.j (omega arith) c.if-j-n.true (sym c.order.ensures ∙ ap toldOrder c.in-Equal.is) _
     c.in_err-e-in-Equal.ensures)))))
 
 pub keep-requires : goal.keep-requires
-keep-requires c = omega (arith, doing-len c.loop-i.invariant.2, c.requires.well.few, c.requires.well_2.few)
+keep-requires c = omega (arith, doing-len c.loop-i.invariant.2, c.requires.left.few, c.requires.right.few)
 
 pub loop-i-preserved : goal.loop-i-preserved
 loop-i-preserved c =
@@ -126,14 +126,14 @@ loop-i-preserved c =
       omega arith,
       omega arith,
       rw c.keep.ensures
-          (doing-kept c.loop-i.invariant.2 (factorAt c.args.a.now i) c.in_ok-e-in-Equal.e _ _ (c.requires.well.each i h).kind step
-          (same c.requires.well c.requires.well_2 i j h c.if-j-n.true (sym c.order.ensures ∙ ap toldOrder c.in-Equal.is) _ c.in_ok-e-in-Equal.ensures)),
+          (doing-kept c.loop-i.invariant.2 (factorAt c.args.a.now i) c.in_ok-e-in-Equal.e _ _ (c.requires.left.each i h).kind step
+          (same c.requires.left c.requires.right i j h c.if-j-n.true (sym c.order.ensures ∙ ap toldOrder c.in-Equal.is) _ c.in_ok-e-in-Equal.ensures)),
     )
 
 pub append-requires : goal.append-requires
 append-requires c =
     let n = doing-len c.loop-i.invariant.2 in
-    record { sound = well-sound c.requires.well; room = (omega (arith, c.requires.well.few, c.requires.well_2.few), c.loop-i.invariant.0) }
+    record { sound = well-sound c.requires.left; room = (omega (arith, c.requires.left.few, c.requires.right.few), c.loop-i.invariant.0) }
 
 pub append-requires-2 : goal.append-requires-2
 append-requires-2 c =
@@ -146,13 +146,13 @@ append-requires-2 c =
       n,
       length-append g.acc (drop c.loop-i.i A),
       length-drop c.loop-i.i A,
-      length-product c.args.a.now c.requires.well.long
-          c.requires.well.few,
+      length-product c.args.a.now c.requires.left.long
+          c.requires.left.few,
       g.few,
-      c.requires.well.few,
-      c.requires.well_2.few,
+      c.requires.left.few,
+      c.requires.right.few,
     ) in
-    record { sound = well-sound c.requires.well_2; room = (few, c.loop-i.invariant.1) }
+    record { sound = well-sound c.requires.right; room = (few, c.loop-i.invariant.1) }
 
 pub returns : goal.returns
 returns c =
@@ -163,10 +163,10 @@ returns c =
     elim c.loop-i-test.branch [
       | then-loop-i-test+else-j-n w ↦
           let h : c.loop-i.j ≡ c.args.b.now.len = omega (arith, w.if-j-n.false) in
-          inr (ap (λ (k : ℕ). drop k (productOf c.args.b.now)) h ∙ at-end c.args.b.now c.requires.well_2.long c.requires.well_2.few)
+          inr (ap (λ (k : ℕ). drop k (productOf c.args.b.now)) h ∙ at-end c.args.b.now c.requires.right.long c.requires.right.few)
       | else-loop-i-test w ↦
           let h : c.loop-i.i ≡ c.args.a.now.len = omega (arith, w.loop-i-test.false) in
-          inl (ap (λ (k : ℕ). drop k (productOf c.args.a.now)) h ∙ at-end c.args.a.now c.requires.well.long c.requires.well.few)
+          inl (ap (λ (k : ℕ). drop k (productOf c.args.a.now)) h ∙ at-end c.args.a.now c.requires.left.long c.requires.left.few)
     ] in
     let two' = c.append-2.ensures (g.acc ++ A) (c.append.ensures g.acc g.is) in
     let whole = doing_end g (A ++ B) (merge-left (numbersOf (table_of c.args.names.pool.now c.args.names.table.now)) A B ended)

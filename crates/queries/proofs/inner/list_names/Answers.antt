@@ -16,7 +16,7 @@ write_sorted-requires c =
     let n = get_or a.names.table.now 0 0 in
     let xs = choose a.k (opensIn a.s.now a.b a.e) in
     let k = c.extend.ensures [] c.new-found.ensures in
-    record { held = marks-held n (good-laid g).few _ xs k c.requires.every; room = c.requires.in_bounds }
+    record { held = marks-held n (good-laid g).few _ xs k c.requires.every; room = c.requires.room }
 
 pub returns : goal.returns
 returns c =

@@ -11,7 +11,7 @@ copy-requires c =
     let s = stood p.made.0 _ _ c.in-Ok.is p.made.1 in
     let few = s.front.few in
     let room = s.front.room in
-    record { b_le_e = omega arith; e_in_bounds = omega (arith, room, s.many); b_bound = omega (arith, few, s.many) }
+    record { order = omega arith; within = omega (arith, room, s.many); near = omega (arith, few, s.many) }
 
 pub returns : goal.returns
 returns c = λ m h. elim c.match-made.branch [

@@ -7,14 +7,14 @@ pub list_names-k-requires : goal.list_names-k-requires
 list_names-k-requires c =
     let (st, k, e) = c.requires.standing in
     let h = k.held in
-    record { every = names-known _ _ _ _ st h c.requires.state_room; in_bounds = omega arith }
+    record { every = names-known _ _ _ _ st h c.requires.state_room; room = omega arith }
 
 pub copy-requires : goal.copy-requires
 copy-requires c =
     let (st, k, e) = c.requires.standing in
     let h = k.held in
     let b = binds-in _ _ _ _ st h c.requires.state_room in
-    record { b_le_e = b.0; e_in_bounds = b.1; b_bound = omega (arith, h.short) }
+    record { order = b.0; within = b.1; near = omega (arith, h.short) }
 
 pub overflow_sub-ends : goal.overflow_sub-ends
 overflow_sub-ends c =

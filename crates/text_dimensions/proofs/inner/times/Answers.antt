@@ -8,7 +8,7 @@ single-requires c =
 
 pub multiplied-requires : goal.multiplied-requires
 multiplied-requires c =
-    record { well = c.requires.well; well_2 = (single-well _ _ (c.requires.held_if _ _ c.in-Ok.is) _ c.requires.good_exp _ c.single.ensures).0 }
+    record { left = c.requires.well; right = (single-well _ _ (c.requires.held_if _ _ c.in-Ok.is) _ c.requires.good_exp _ c.single.ensures).0 }
 
 pub returns-in-Err : goal.returns-in-Err
 returns-in-Err c =

@@ -16,7 +16,7 @@ read_sheet-requires c =
 pub copy-requires : goal.copy-requires
 copy-requires c =
     let y = c.in_ok-read.ensures in
-    record { b_le_e = omega arith; e_in_bounds = omega (arith, y.few, c.requires.work_long, c.read_sheet.auto.dst); b_bound = omega (arith, y.few) }
+    record { order = omega arith; within = omega (arith, y.few, c.requires.work_long, c.read_sheet.auto.dst); near = omega (arith, y.few) }
 
 pub returns : goal.returns
 returns c =

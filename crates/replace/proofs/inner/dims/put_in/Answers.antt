@@ -11,11 +11,11 @@ returns-in_err-bound c = λ a w.
     let p = err_from_is_err_and c.from_residual.result c.from_residual.ensures.1 in
     rw (p.1, p.2) (put_first s.names.pool.now s.names.table.now s.f c.requires.fine a s.t.tree.0 _ c.in_err-bound.ensures)
 
-pub divided-requires-clause-well : goal.divided-requires-clause-well
-divided-requires-clause-well c = (taken c.args.names.pool.now c.args.names.table.now c.args.acc.now c.requires.whole.0 c.requires.whole.1).well
+pub divided-requires-clause-left : goal.divided-requires-clause-left
+divided-requires-clause-left c = (taken c.args.names.pool.now c.args.names.table.now c.args.acc.now c.requires.whole.0 c.requires.whole.1).well
 
-pub divided-requires-clause-well_2 : goal.divided-requires-clause-well_2
-divided-requires-clause-well_2 c =
+pub divided-requires-clause-right : goal.divided-requires-clause-right
+divided-requires-clause-right c =
     let s = c.args in
     (taken s.names.pool.now s.names.table.now c.only.result _
     (only-whole s.names.pool.now s.names.table.now s.f c.requires.fine c.only.result (c.only.ensures _ (value-back s.f c.requires.fine.kind)))).well
@@ -51,8 +51,8 @@ returns-in_err-more c = λ a w.
     c.in_ok-bound.ensures
     c.in_ok-left.left c.in_ok-left.ensures _ c.in_err-more.ensures)
 
-pub multiplied-requires-clause-well : goal.multiplied-requires-clause-well
-multiplied-requires-clause-well c =
+pub multiplied-requires-clause-left : goal.multiplied-requires-clause-left
+multiplied-requires-clause-left c =
     let s = c.args in
     let t = s.t.tree.0 in
     let o = only-whole s.names.pool.now s.names.table.now s.f c.requires.fine c.only.result (c.only.ensures _ (value-back s.f c.requires.fine.kind)) in
@@ -61,8 +61,8 @@ multiplied-requires-clause-well c =
     c.in_ok-left.left c.in_ok-left.ensures in
     (taken s.names.pool.now s.names.table.now _ l.tree l.whole).well
 
-pub multiplied-requires-clause-well_2 : goal.multiplied-requires-clause-well_2
-multiplied-requires-clause-well_2 c =
+pub multiplied-requires-clause-right : goal.multiplied-requires-clause-right
+multiplied-requires-clause-right c =
     let s = c.args in
     let t = s.t.tree.0 in
     let o = only-whole s.names.pool.now s.names.table.now s.f c.requires.fine c.only.result (c.only.ensures _ (value-back s.f c.requires.fine.kind)) in

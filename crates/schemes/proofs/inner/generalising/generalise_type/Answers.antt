@@ -11,7 +11,7 @@ list_names-k-requires c =
     record {
       every = names-known a.names.pool.now a.names.table.now a.names.good a.t.tree.0 a.bounds.listed.0 c.requires.ready a.t.words.now a.t.at a.t.tree.1 _
           c.end.ensures;
-      in_bounds = omega arith;
+      room = omega arith;
     }
 
 pub slice_bounds-sorted-end : goal.slice_bounds-sorted-end

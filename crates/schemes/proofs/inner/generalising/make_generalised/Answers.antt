@@ -85,7 +85,7 @@ returns-in-Concrete c =
 pub copy-requires : goal.copy-requires
 copy-requires c =
     let short = words-short _ _ _ c.in_ok-check_lengths.ensures in
-    record { b_le_e = omega arith; e_in_bounds = omega arith; b_bound = omega (arith, short) }
+    record { order = omega arith; within = omega arith; near = omega (arith, short) }
 
 pub returns-in-Quantified : goal.returns-in-Quantified
 returns-in-Quantified c =

@@ -3,11 +3,11 @@ use Rattle.std.proofs.lemmas.Result.{err_from_is_err_and}
 use Rattle.solve_step.proofs.Quotient.{whole, whole-well, quotient-is, quotient-fresh, fresh-sound, scalar-put, scalar-stop}
 use Rattle.solve_step.proofs.inner.kinds.quotient.Goals as goal
 
-pub divided-requires-clause-well : goal.divided-requires-clause-well
-divided-requires-clause-well c = let n = c.args.names in whole-well n.pool.now n.table.now _ (whole n.pool.now n.table.now c.requires.left_good c.value.ensures)
+pub divided-requires-clause-left : goal.divided-requires-clause-left
+divided-requires-clause-left c = let n = c.args.names in whole-well n.pool.now n.table.now _ (whole n.pool.now n.table.now c.requires.left_good c.value.ensures)
 
-pub divided-requires-clause-well_2 : goal.divided-requires-clause-well_2
-divided-requires-clause-well_2 c = let n = c.args.names in
+pub divided-requires-clause-right : goal.divided-requires-clause-right
+divided-requires-clause-right c = let n = c.args.names in
     whole-well n.pool.now n.table.now _ (whole n.pool.now n.table.now c.requires.right_good c.value-2.ensures)
 
 pub returns-in_err-made : goal.returns-in_err-made
