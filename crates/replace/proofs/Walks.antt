@@ -97,10 +97,6 @@ under {ws = ws} {w = w} {w₃ = w₃} f v h r p b =
 
 -- ══ Sizes of parts ══
 
-pub sizes : (t : Ty ℕ) (ts us : Tys ℕ) → cons t ts ≡ us → size t + sizeTys ts ≡ sizeTys us
-unfolding sizeTys
-sizes t ts us e = ap sizeTys e
-
 pub sizes-fields : (x : ℕ) (t : Ty ℕ) (fs gs : Fields ℕ) → field x t fs ≡ gs → suc (size t + sizeFields fs) ≡ sizeFields gs
 unfolding sizeFields
 sizes-fields x t fs gs e = ap sizeFields e

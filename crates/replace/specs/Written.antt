@@ -220,9 +220,3 @@ run-held s (b ∷ bs) at h = (h.0, run-held s bs (at + sizeBinding b) h.1)
 
 pub as-run : (s : List ℕ) (bs : List (Binding ℕ)) (at end : ℕ) → IsBinds s at end bs → Run s at end bs
 as-run s bs at end h = record { held = run-held s bs at h.held; past = h.ends }
-
--- constraints and bindings that stand one after another, as `types` has them
-pub cons-all : (s : List ℕ) (cs : List (Con ℕ)) (at : ℕ) → HoldsAll HoldsCon sizeCon s cs at → HoldsCons s cs at
-unfolding HoldsAll HoldsCons
-cons-all s [] at h = tt
-cons-all s (c ∷ cs) at h = (h.0, cons-all s cs (at + sizeCon c) h.1)

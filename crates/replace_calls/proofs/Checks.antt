@@ -1,7 +1,6 @@
 -- The checks of two lists over a name table that was tested before: where one of them refuses, so does the call.
-use Rattle.std.specs.Prelude.{Result, Ok, Err, IfOk, ◌≡◌, refl, Bool, true, false, ◌&&◌, List, [], ◌∷◌, ◌++◌, ℕ, ◌≤◌, ◌<◌, leb, length}
+use Rattle.std.specs.Prelude.{Result, Ok, Err, IfOk, ◌≡◌, refl, Bool, true, false, ◌&&◌, List, [], ◌∷◌, ◌++◌, ℕ, leb, length}
 use Rattle.std.proofs.Common.{sym, ap, ap₂, ◌∙◌}
-use borrow.Author.Tests.{le-leb, lt-leb, leb-true}
 use Rattle.rules.specs.Base.{Got, got, refused, ◌>>=◌, ◌>>◌, need, all, collect}
 use Rattle.rules.specs.Calls.{shortLists, tableKept, bindingsGiven, apart, opensBinding}
 use Rattle.rules.specs.Contents.{unmixed}
@@ -12,60 +11,24 @@ use Rattle.rules.specs.declared.Refusal.{Refusal}
 use Rattle.laws.specs.Lists.{clash}
 use Rattle.names.specs.Told.{unit_of}
 use Rattle.names.specs.declared.tables.NameTable.{NameTable}
-use Rattle.types.specs.Given.{over_table}
+use Rattle.types.specs.Given.{list_over}
+use Rattle.types.proofs.Tested.{over, kept, as-refused, short, given}
 use Rattle.replace_calls.specs.Entry.{both_over}
 
 -- ══ The check of 8 ══
 
-second-long : (b : Bool) → need (b && (false && true)) 8 ≡ refused 8
-second-long true = refl
-second-long false = refl
-
-module _ (ws binds : List ℕ) where
-  binds-long : 8192 < length binds → shortLists (ws ∷ binds ∷ []) ≡ refused 8
-  unfolding shortLists all
-  binds-long h = rw (lt-leb (length binds) 8192 h, second-long (leb (length ws) 8192))
-
-  -- short bindings add nothing to it
-  ws-alone : length binds ≤ 8192 → shortLists (ws ∷ binds ∷ []) ≡ shortLists (ws ∷ [])
-  unfolding shortLists all
-  ws-alone h = rw (le-leb (length binds) 8192 h)
-
-short : (ws : List ℕ) → length ws ≤ 8192 → shortLists (ws ∷ []) ≡ got tt
+-- two lists are short where the second is, and then the first
+second-first : (ws binds : List ℕ) → shortLists (ws ∷ binds ∷ []) ≡ (shortLists (binds ∷ []) >> shortLists (ws ∷ []))
 unfolding shortLists all
-short ws h = rw (le-leb (length ws) 8192 h)
-
--- ══ A list that was given ══
-
-abbrev over : NameTable → Table
-over n = table_of n.pool.now n.table.now
-
-module _ {A : Type 0} (names : Result NameTable Refusal) (f : Table → List ℕ → Got A) (ws : List ℕ) (n : NameTable) (i : names ≡ Ok n) where
-  pub given : (a : A) → got a ≡ (shortLists (ws ∷ []) >> over_table names (λ t. f t ws)) → (length ws ≤ 8192) × (f (over n) ws ≡ got a)
-  unfolding shortLists all
-  given a e = go (leb (length ws) 8192) refl (rw i at e)
-    where
-      go : (b : Bool) → leb (length ws) 8192 ≡ b → got a ≡ (shortLists (ws ∷ []) >> over_table (Ok n) (λ t. f t ws))
-          → (length ws ≤ 8192) × (f (over n) ws ≡ got a)
-      go true q h = (leb-true (length ws) 8192 q, sym (rw q at h))
-      go false q h = clash (sym (rw q at h))
-
-  not-given : (k : ℕ) → length ws ≤ 8192 → refused k ≡ (shortLists (ws ∷ []) >> over_table names (λ t. f t ws)) → f (over n) ws ≡ refused k
-  not-given k h e = sym (rw (i, short ws h) at e)
-
--- two lists over one table
-pub same_table : {names : Result NameTable Refusal} {n m : NameTable} → names ≡ Ok n → names ≡ Ok m → n ≡ m
-same_table i j = cc
+second-first ws binds = go (leb (length ws) 8192) (leb (length binds) 8192)
+  where
+    go : (a b : Bool) → need (a && (b && true)) 8 ≡ (need (b && true) 8 >> need (a && true) 8)
+    go true true = refl
+    go true false = refl
+    go false true = refl
+    go false false = refl
 
 -- ══ The calls ══
-
-kept : (n : NameTable) → tableKept (over n) ≡ got tt
-unfolding tableKept
-kept n = rw n.good.good
-
-as-refused : {A B : Type 0} (l : Got (Unit {0})) (n k : ℕ) → ◌≡◌ {A = Got A} (refused n) (l >> refused k) → ◌≡◌ {A = Got B} (l >> refused k) (refused n)
-as-refused (refused i) n k e = cc
-as-refused (got x) n k e = cc
 
 unmet : {A B : Type 0} (s k : Got (Unit {0})) (m : Got A) (g : A → Got B) (n : ℕ) → k ≡ got tt → refused n ≡ (s >> m) → (s >> (k >> (m >>= g))) ≡ refused n
 unmet (refused i) k m g n h e = cc
@@ -83,27 +46,39 @@ module _ {A B : Type 0} (first : Table → List ℕ → Got A) (os : A → List 
   asked t ws binds = past t (tableKept t) ws binds
 
   module _ (ws binds : List ℕ) where
-    pub second-too-long : (names : Result NameTable Refusal) → 8192 < length binds → both_over names asked ws binds ≡ refused 8
-    second-too-long (Ok n) h = rw (binds-long ws binds h)
-    second-too-long (Err why) h = rw (binds-long ws binds h)
+    pub second-too-long : (names : Result NameTable Refusal) (k : ℕ) → refused k ≡ shortLists (binds ∷ []) → both_over names asked ws binds ≡ refused k
+    second-too-long (Ok n) k h = rw (second-first ws binds, ← h)
+    second-too-long (Err why) k h = rw (second-first ws binds, ← h)
 
-    pub first-stops : (names : Result NameTable Refusal) → length binds ≤ 8192 → (k : ℕ)
-        → refused k ≡ (shortLists (ws ∷ []) >> over_table names (λ t. first t ws)) → both_over names asked ws binds ≡ refused k
-    first-stops (Ok n) h k e = rw (ws-alone ws binds h) (unmet (shortLists (ws ∷ [])) (tableKept (over n)) (first (over n) ws) _ k (kept n) e)
-    first-stops (Err why) h k e = rw (ws-alone ws binds h) (as-refused (shortLists (ws ∷ [])) k (number_of why) e)
+    pub first-stops : (names : Result NameTable Refusal) → got tt ≡ shortLists (binds ∷ []) → (k : ℕ) → refused k ≡ list_over first names ws
+        → both_over names asked ws binds ≡ refused k
+    first-stops (Ok n) h k e = rw (second-first ws binds, ← h) (unmet (shortLists (ws ∷ [])) (tableKept (over n)) (first (over n) ws) _ k (kept n) e)
+    first-stops (Err why) h k e = rw (second-first ws binds, ← h) (as-refused (shortLists (ws ∷ [])) k (number_of why) e)
 
-    module _ (names : Result NameTable Refusal) (n : NameTable) (i : names ≡ Ok n) (a : A) (h : length ws ≤ 8192) (f : first (over n) ws ≡ got a)
-        (l : length binds ≤ 8192) where
-      both-short : shortLists (ws ∷ binds ∷ []) ≡ got tt
-      both-short = ws-alone ws binds l ∙ short ws h
+    module _ (names : Result NameTable Refusal) (n : NameTable) (i : names ≡ Ok n) (a : A) (e : got a ≡ list_over first names ws) where
+      its : first (over n) ws ≡ got a
+      its = (given ws first names n i a e).1
 
-      pub second-stops : (k : ℕ) → refused k ≡ (shortLists (binds ∷ []) >> over_table names (λ t. bindingsGiven t binds))
-          → both_over names asked ws binds ≡ refused k
-      second-stops k e = rw (i, both-short, kept n, f, not-given names bindingsGiven binds n i k l e)
+      both-short : got tt ≡ shortLists (binds ∷ []) → shortLists (ws ∷ binds ∷ []) ≡ got tt
+      both-short l = rw (second-first ws binds, ← l) (short ws (given ws first names n i a e).0)
 
-      pub both-given : (bs : List (Binding ℕ)) → bindingsGiven (over n) binds ≡ got bs
-          → both_over names asked ws binds ≡ (apart (over n) (os a ++ collect opensBinding bs) >> make (over n) a bs)
-      both-given bs g = rw (i, both-short, kept n, f, g)
+      pub second-stops : got tt ≡ shortLists (binds ∷ []) → (k : ℕ) → refused k ≡ list_over bindingsGiven names binds → both_over names asked ws binds ≡ refused k
+      second-stops l k q =
+          let f : bindingsGiven (over n) binds ≡ refused k = sym (rw (i, ← l) at q) in
+          rw (i, both-short l, kept n, its, f)
+
+      -- the answer of the check of 4, with what comes behind it
+      module _ (bs : List (Binding ℕ)) (g : got bs ≡ list_over bindingsGiven names binds) where
+        its-bindings : bindingsGiven (over n) binds ≡ got bs
+        its-bindings = (given binds bindingsGiven names n i bs g).1
+
+        module _ (opened binds-opened : List (Open ℕ)) (o : opened ≡ os a) (p : binds-opened ≡ collect opensBinding bs) where
+          pub asked-apart : (r : Got (Unit {0})) → r ≡ need (unmixed (numbersOf (over n)) (opened ++ binds-opened)) 4
+              → both_over names asked ws binds ≡ (r >> make (over n) a bs)
+          unfolding apart
+          asked-apart r h =
+              let k : r ≡ apart (over n) (os a ++ collect opensBinding bs) = h ∙ ap₂ (λ (x y : List (Open ℕ)). need (unmixed (numbersOf (over n)) (x ++ y)) 4) o p in
+              rw (i, both-short (sym (short binds (given binds bindingsGiven names n i bs g).0)), kept n, its, its-bindings, k)
 
   -- over the table that was tested it is what the call asks
   module _ (pool table : List ℕ) (l : lentTable pool table ≡ got tt) (ws binds : List ℕ) where
@@ -119,15 +94,3 @@ module _ {A B : Type 0} (first : Table → List ℕ → Got A) (os : A → List 
     unfolding tableGiven tableKept
     tested (Ok n) e i = ap₂ (λ (p q : List ℕ). asked (table_of p q) ws binds) i.0 i.1
     tested (Err why) e i = refused-table (number_of why) (tableKept (table_of pool table)) refl e
-
-  -- the answer of the check of 4, with what comes behind it
-  module _ (t : Table) (a : A) (bs : List (Binding ℕ)) (opened binds-opened : List (Open ℕ)) (e : opened ≡ os a) (g : binds-opened ≡ collect opensBinding bs) where
-    asked-apart : (r : Got (Unit {0})) → r ≡ need (unmixed (numbersOf t) (opened ++ binds-opened)) 4 → r ≡ apart t (os a ++ collect opensBinding bs)
-    unfolding apart
-    asked-apart r h = h ∙ ap₂ (λ (x y : List (Open ℕ)). need (unmixed (numbersOf t) (x ++ y)) 4) e g
-
-    pub are-apart : got tt ≡ need (unmixed (numbersOf t) (opened ++ binds-opened)) 4 → (apart t (os a ++ collect opensBinding bs) >> make t a bs) ≡ make t a bs
-    are-apart h = rw (← asked-apart (got tt) h)
-
-    pub not-apart : (k : ℕ) → refused k ≡ need (unmixed (numbersOf t) (opened ++ binds-opened)) 4 → (apart t (os a ++ collect opensBinding bs) >> make t a bs) ≡ refused k
-    not-apart k h = rw (← asked-apart (refused k) h)

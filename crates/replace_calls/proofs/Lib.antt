@@ -1,4 +1,3 @@
-mod Tests
 mod Checks
 mod Standing
 mod Making

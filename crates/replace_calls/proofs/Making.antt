@@ -32,12 +32,12 @@ use Rattle.replace.specs.Runs.{looked-good}
 use Rattle.replace.specs.Substitutions.{ALook, one-look}
 use Rattle.replace.specs.Well.{GoodCon, GoodTy, Lent, Listed}
 use Rattle.replace.specs.Written.{as-run, ty-fits, written-cons}
+use Rattle.types.specs.Fine.{FineBindings}
 use Rattle.types.specs.declared.Bindings.{Bindings}
 use Rattle.types.specs.declared.writer.Writer.{Writer}
 use Rattle.types.specs.Sets.{IsCons}
 use Rattle.types.specs.Written.{last}
 use Rattle.records_buffers.specs.Told.{Front, Made}
-use Rattle.replace_calls.specs.Fine.{FineBindings}
 use Rattle.replace_calls.specs.Made.{limitedTo, madeSet}
 use Rattle.replace_calls.specs.Stands.{counted, TypeStands, SetStands}
 

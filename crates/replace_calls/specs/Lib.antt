@@ -1,5 +1,3 @@
-pub mod Fine
-pub mod Given
 pub mod Entry
 pub mod Stands
 pub mod Made

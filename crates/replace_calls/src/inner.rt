@@ -1,7 +1,4 @@
 //! The steps of a call that replaces, past the check of 10.
-pub mod given;
-pub mod testing;
-
 ghost use Rattle.std.specs.Prelude.{◌≡◌, true, List, ℕ, ◌++◌, ◌/◌, ◌≤◌, length};
 ghost use Rattle.rules.specs.Base.{need, all};
 ghost use Rattle.rules.specs.Calls.{replacedSet, replacedType};
@@ -17,7 +14,6 @@ ghost use Rattle.replace_calls.specs.Entry.{both_over};
 ghost use Rattle.replace_calls.specs.Stands.{TypeStands, SetStands, typeCounted, setCounted};
 ghost use Rattle.replace_calls.specs.Made.{madeType, madeSet};
 
-use given::{GivenBindings, GivenType};
 use names::tables::NameTable;
 use queries::inner::apart;
 use records::inner::type_end;
@@ -27,8 +23,9 @@ use replace::inner::walk::replace_type;
 use replace::substitution::Substitution;
 use replace_table::inner::fill;
 use rules::{NAMES, NESTED, RECORD_WORDS, RECORDS, Refusal};
+use types::given::short;
 use types::writer::Writer;
-use types::{Constraints, GivenSet, Type};
+use types::{Constraints, GivenBindings, GivenSet, GivenType, Type};
 
 // 4 where a name of the two lists is a variable and a parameter.
 fn check_apart(words: &[u32], binds: &[u32]) -> Result<(), Refusal>
@@ -142,9 +139,7 @@ pub fn make_type(
     requires { 16384 ≤ length work.old }
     ensures { Made (both_over names.entry replacedType words.now binds.now) work.new result }
 {
-    if RECORD_WORDS < binds.len() {
-        return Err(Refusal::TooLarge);
-    }
+    short(binds)?;
     let given = GivenType::new(names, words)?;
     let bindings = GivenBindings::new(names, binds)?;
     check_apart(words, binds)?;
@@ -161,9 +156,7 @@ pub fn make_set(
     requires { 16384 ≤ length work.old }
     ensures { Made (both_over names.entry replacedSet words.now binds.now) work.new result }
 {
-    if RECORD_WORDS < binds.len() {
-        return Err(Refusal::TooLarge);
-    }
+    short(binds)?;
     let given = GivenSet::new(names, words)?;
     let bindings = GivenBindings::new(names, binds)?;
     check_apart(words, binds)?;

@@ -148,6 +148,31 @@ module _ (ν : Names ℕ) (known : ℕ → Bool) (q : ℕ) (same : (x y : ℕ) �
       go true i ih = ap known (same x y i) ∙ ((and-eq-true_iff (known y) (goodTy ν known q u)).0 r.0).0
       go false i ih = let z : find ν bs x ≡ some t = rw (find, i) at e in ih z
 
+-- of what every variable says, what every name says
+module _ (ν : Names ℕ) (places v : List ℕ) (bs : List (Binding ℕ)) (long : length places ≡ 256)
+    (below : (x : ℕ) (t : Ty ℕ) → find ν bs x ≡ some t → x < 256)
+    (says : (x : ℕ) → x < 256 → SaysAt v (get_or places x 0) (find ν bs x)) where
+  past : (k : ℕ) → 256 ≤ k → get_or places k 0 ≡ 0
+  past k le = get_or-eq_default places 0 (omega (arith, long))
+
+  unbound : (x : ℕ) → 256 ≤ x → (m : Option (Ty ℕ)) → find ν bs x ≡ m → SaysAt v 0 m
+  unbound x le none q = refl
+  unbound x le (some t) q = absurd (omega (arith, below x t q))
+
+  pub word : (o : Open ℕ) → SaysAt v (word_of places o) (bindings ν bs o)
+  unfolding bindings
+  word (var x) = go (ltb x 256) refl
+    where
+      go : (c : Bool) → ltb x 256 ≡ c → SaysAt v (cond c (get_or places (0 + x) 0) 0) (find ν bs x)
+      go true q = let z : 0 + x ≡ x = omega arith in rw z (says x (ltb-true x 256 q))
+      go false q = unbound x (ltb-false x 256 q) (find ν bs x) refl
+  word (quant i) = past (512 + i) (omega arith)
+  word (par x) = go (ltb x 256)
+    where
+      go : (c : Bool) → cond c (get_or places (256 + x) 0) 0 ≡ 0
+      go true = past (256 + x) (omega arith)
+      go false = refl
+
 module _ (pool table places v : List ℕ) (b e : ℕ) (bs : List (Binding ℕ)) (good : Good pool table) (h : Listed pool table v b e bs) (long : length places ≡ 256)
     (says : (x : ℕ) → x < 256 → SaysAt v (get_or places x 0) (find (names pool table) bs x)) where
   named : (x y : ℕ) (d : Dec (x ≡ y)) → is_yes d ≡ true → x ≡ y
@@ -160,30 +185,12 @@ module _ (pool table places v : List ℕ) (b e : ℕ) (bs : List (Binding ℕ)) 
       let k = find-held (names pool table) (is_held (table_of pool table)) 4_294_967_296 (λ x y. named x y (ℕ_discrete x y)) bs x t h.good q in
       omega (arith, ltb-true x (get_or table 0 0) k, (good-laid good).few)
 
-  past : (k : ℕ) → 256 ≤ k → get_or places k 0 ≡ 0
-  past k le = get_or-eq_default places 0 (omega (arith, long))
-
-  none-past : (x : ℕ) → 256 ≤ x → (m : Option (Ty ℕ)) → find (names pool table) bs x ≡ m → SaysAt v 0 m
-  none-past x le none q = refl
-  none-past x le (some t) q = absurd (omega (arith, below x t q))
-
-  word : (o : Open ℕ) → SaysAt v (word_of places o) (bindings (names pool table) bs o)
-  unfolding bindings
-  word (var x) = go (ltb x 256) refl
-    where
-      go : (c : Bool) → ltb x 256 ≡ c → SaysAt v (cond c (get_or places (0 + x) 0) 0) (find (names pool table) bs x)
-      go true q = let z : 0 + x ≡ x = omega arith in rw z (says x (ltb-true x 256 q))
-      go false q = none-past x (ltb-false x 256 q) (find (names pool table) bs x) refl
-  word (quant i) = past (512 + i) (omega arith)
-  word (par x) = go (ltb x 256)
-    where
-      go : (c : Bool) → cond c (get_or places (256 + x) 0) 0 ≡ 0
-      go true = past (256 + x) (omega arith)
-      go false = refl
-
   pub filled : Lent pool table places v (bindings (names pool table) bs)
   filled = record {
-    tabled = record { says = word; few = λ o t q. omega (arith, looked-short (names pool table) bs o t q, h.short, h.run.past) };
+    tabled = record {
+      says = word (names pool table) places v bs long below says;
+      few = λ o t q. omega (arith, looked-short (names pool table) bs o t q, h.short, h.run.past);
+    };
     good = λ o t q. looked-good (names pool table) (is_held (table_of pool table)) 4_294_967_296 bs o t h.good q;
     near = h.near;
   }

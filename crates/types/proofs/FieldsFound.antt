@@ -8,7 +8,7 @@ use Rattle.rules.specs.Contents.{fieldIn}
 use Rattle.rules.specs.Names.{Bytes, numbered}
 use Rattle.rules.specs.Trees.{Ty, Fields, noFields, field, countFields}
 
-named-same : (x y : ℕ) (d : Dec (x ≡ y)) → is_yes d ≡ eqb x y
+pub named-same : (x y : ℕ) (d : Dec (x ≡ y)) → is_yes d ≡ eqb x y
 named-same x y (yes p) = sym (eq-eqb x y p)
 named-same x y (no n) = sym (ne_eqb x y n)
 

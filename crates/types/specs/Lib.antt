@@ -3,6 +3,7 @@ pub mod Fine
 pub mod Given
 pub mod Once
 pub mod Puts
+pub mod Rows
 pub mod Sets
 pub mod Shapes
 pub mod Written

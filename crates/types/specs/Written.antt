@@ -15,7 +15,7 @@ abbrev pub last : ℕ
 last = 1_152_921_504_606_846_976
 
 -- records, and then others behind them
-writes : (d d₁ d₂ : List ℕ) (a b : List Rec) (out : ℕ) → d₁ ≡ sets d (out * 4) (words a) → d₂ ≡ sets d₁ ((out + length a) * 4) (words b)
+pub writes : (d d₁ d₂ : List ℕ) (a b : List Rec) (out : ℕ) → d₁ ≡ sets d (out * 4) (words a) → d₂ ≡ sets d₁ ((out + length a) * 4) (words b)
     → d₂ ≡ sets d (out * 4) (words (a ++ b))
 writes d d₁ d₂ a b out p q =
     let e : (out + length a) * 4 ≡ out * 4 + length (words a) = omega (arith, words-length a) in

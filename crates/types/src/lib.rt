@@ -11,11 +11,12 @@ pub mod sets;
 pub mod writer;
 pub mod writing;
 
-ghost use Rattle.std.specs.Prelude.{◌≡◌, ◌≤◌, length};
+ghost use Rattle.std.specs.Prelude.{◌≡◌, ◌≤◌, true, length};
+ghost use Rattle.records.specs.Good.{goodTy};
 ghost use Rattle.types.specs.Once.{ATree, ACon, Trees, FieldTrees, Factors, one-tree, one-con, one-list, one-field-list, one-product};
 ghost use Rattle.types.specs.Sets.{Cons, one-set};
 ghost use Rattle.types.specs.Binds.{Binds, one-binds};
-ghost use Rattle.types.specs.Fine.{Fine};
+ghost use Rattle.types.specs.Fine.{Fine, FineBindings};
 
 use names::tables::NameTable;
 use records::{Atom, Basic, Open};
@@ -118,6 +119,14 @@ pub struct GivenSet<'a> {
     pub ghost fine: { Fine names.pool.now names.table.now all.trees.0 },
 }
 
+/// A type that passed its test over a name table: well formed, with no quantified variable.
+#[derive(Clone, Copy)]
+pub struct GivenType<'a> {
+    pub names: NameTable<'a>,
+    pub whole: Type<'a>,
+    pub ghost good: { goodTy names.pool.now names.table.now 0 whole.tree.0 ≡ true },
+}
+
 /// A binding: a variable, and the type that it is bound to.
 #[derive(Clone, Copy)]
 pub struct Binding<'a> {
@@ -133,6 +142,14 @@ pub struct Bindings<'a> {
     pub end: usize,
     pub ghost near: { length words.now ≤ 4_000_000_000 },
     pub ghost trees: { Binds words.now at end } by { one-binds words.now at end },
+}
+
+/// Bindings that passed their test over a name table: well formed, and of at most 2,048 records.
+#[derive(Clone, Copy)]
+pub struct GivenBindings<'a> {
+    pub names: NameTable<'a>,
+    pub all: Bindings<'a>,
+    pub ghost fine: { FineBindings names.pool.now names.table.now all.trees.0 },
 }
 
 /// What a constraint asks: that two types are equal, that a type is a dimension, that a dimension is a scalar, or that a type has the field of that name, and

@@ -1,43 +1,33 @@
 -- `GivenSet::new` meets its contract.
-use Rattle.std.specs.Prelude.{refl}
-use Rattle.std.proofs.Common.{sym, arith}
+use Rattle.std.proofs.Common.{arith}
 use Rattle.std.proofs.lemmas.Result.{err_from_is_err_and}
+use Rattle.rules.specs.Calls.{setGiven}
 use Rattle.records.specs.Found.{Words32}
-use Rattle.types.proofs.GivenSets.{too_long, short-enough, set-there, not-there, uneven, and-false, given-are, fine-are}
+use Rattle.types.proofs.GivenLists.{set-told, set-held}
+use Rattle.types.proofs.Tested.{whole, table-is, comes-to, not-passed, is-given, is-known}
 use Rattle.types.proofs.GivenSet.new.Goals as goal
-use Rattle.types.proofs.GivenSet.new.Goals.{then-words-ne0-via-then-words-ne0, then-words-ne0-via-else-words-ne0+then-not-set_good}
 
-pub returns-then-words-gt-RECORD_WORDS-clause-answer : goal.returns-then-words-gt-RECORD_WORDS-clause-answer
-returns-then-words-gt-RECORD_WORDS-clause-answer c = too_long _ _ c.if-words-gt-RECORD_WORDS.true
-
-pub returns-in_err-names-clause-answer : goal.returns-in_err-names-clause-answer
-returns-in_err-names-clause-answer c =
-    let p = err_from_is_err_and c.from_residual.result c.from_residual.ensures.1 in
-    rw (p.1, p.2, c.in_err-names.was) (short-enough _ _ _ c.if-words-gt-RECORD_WORDS.false refl)
-
-pub returns-then-words-ne0-clause-answer : goal.returns-then-words-ne0-clause-answer
-returns-then-words-ne0-clause-answer c =
+pub returns-in_err-passed-clause-answer : goal.returns-in_err-passed-clause-answer
+returns-in_err-passed-clause-answer c =
     let word : Words32 c.args.words.now = record { word = λ i. (c.type_inv.words i).fits } in
-    rw c.in_ok-names.was (short-enough _ _ _ c.if-words-gt-RECORD_WORDS.false (sym (elim c.then-words-ne0.branch [
-      | then-words-ne0-via-then-words-ne0 w ↦ uneven _ _ _ word w.if-words-ne0.true
-      | then-words-ne0-via-else-words-ne0+then-not-set_good w ↦
-          not-there _ _ _ word w.set_good.result w.set_good.ensures (rw w.if-not-set_good.true (and-false _))
-    ])))
+    let p = err_from_is_err_and c.from_residual-in_err-passed.result c.from_residual-in_err-passed.ensures.1 in
+    rw (p.1, p.2) (not-passed _ setGiven c.args.names _ c.in_ok-names.ensures _ (set-told _ _ _ word _ c.set_good.ensures) c.in_err-passed.ensures)
 
 pub invariant_of-all : goal.invariant_of-all
 invariant_of-all c =
     let word : Words32 c.args.words.now = record { word = λ i. (c.type_inv.words i).fits } in
-    let x = set-there _ _ _ word c.set_good.result c.if-not-set_good.false c.if-words-gt-RECORD_WORDS.false c.if-words-ne0.false c.set_good.ensures in
-    record { near = omega (arith, c.if-words-gt-RECORD_WORDS.false); trees = x.cons }
+    let t = table-is _ setGiven c.args.names c.in_ok-names.names c.in_ok-names.ensures in
+    let h = set-held _ _ _ word _ c.set_good.ensures t.0 (whole _ _ c.in_ok-passed.ensures) in
+    record { near = omega (arith, t.0); trees = h.its }
 
 pub invariant_of-result : goal.invariant_of-result
 invariant_of-result c =
     let word : Words32 c.args.words.now = record { word = λ i. (c.type_inv.words i).fits } in
-    let x = set-there _ _ _ word c.set_good.result c.if-not-set_good.false c.if-words-gt-RECORD_WORDS.false c.if-words-ne0.false c.set_good.ensures in
-    record { fine = fine-are _ _ _ x c.result-1.given.1.0 }
+    let t = table-is _ setGiven c.args.names c.in_ok-names.names c.in_ok-names.ensures in
+    record { fine = is-known _ _ _ (set-held _ _ _ word _ c.set_good.ensures t.0 (whole _ _ c.in_ok-passed.ensures)) c.result-1.given.1.0 }
 
 pub returns-clause-answer : goal.returns-clause-answer
 returns-clause-answer c =
     let word : Words32 c.args.words.now = record { word = λ i. (c.type_inv.words i).fits } in
-    let x = set-there _ _ _ word c.set_good.result c.if-not-set_good.false c.if-words-gt-RECORD_WORDS.false c.if-words-ne0.false c.set_good.ensures in
-    rw c.in_ok-names.was (short-enough _ _ _ c.if-words-gt-RECORD_WORDS.false (sym (given-are _ _ _ x c.result-1.given.1.0)))
+    let t = table-is _ setGiven c.args.names c.in_ok-names.names c.in_ok-names.ensures in
+    comes-to _ setGiven c.args.names _ c.in_ok-names.ensures (is-given _ _ _ (set-held _ _ _ word _ c.set_good.ensures t.0 (whole _ _ c.in_ok-passed.ensures)) c.result-1.given.1.0)

@@ -3,10 +3,10 @@ use Rattle.std.proofs.Common.{arith, ap}
 use Rattle.std.proofs.lemmas.Result.{err_from_is_err_and}
 use Rattle.records.specs.ByView.{size-pos}
 use Rattle.records.specs.Holds.{openOf}
+use Rattle.types.specs.Puts.{sizes}
 use Rattle.replace.specs.Leaves.{sizeParts}
 use Rattle.replace.proofs.Walks.{
   told,
-  sizes,
   sizes-fields,
   sizes-function,
   sizes-struct,
