@@ -87,9 +87,9 @@ module _ {A : Type 0} {In : A → Type 0} (one : IsProp ((a : A) × In a)) (m : 
     pub known : Known its.0
 
   -- whichever way it is told
-  module _ (h : Held) (x : (a : A) × In a) where
-    pub is-given : m ≡ got x.0
-    is-given = h.given ∙ ap (λ (k : (a : A) × In a). got k.0) (one h.its x)
+  module _ (h : Held) (a : A) (i : In a) where
+    pub is-given : m ≡ got a
+    is-given = h.given ∙ ap (λ (k : (a : A) × In a). got k.0) (one h.its (a, i))
 
-    pub is-known : Known x.0
-    is-known = subst (λ (k : (a : A) × In a). Known k.0) (one h.its x) h.known
+    pub is-known : Known a
+    is-known = subst (λ (k : (a : A) × In a). Known k.0) (one h.its (a, i)) h.known

@@ -16,8 +16,8 @@ pub invariant_of-to : goal.invariant_of-to
 invariant_of-to c = record { near = c.args.self.near; tree = bound-tree _ _ _ c.args.self.trees c.if-self.false }
 
 pub invariant_of-rest : goal.invariant_of-rest
-invariant_of-rest c = record { near = c.args.self.near; trees = binds-behind _ _ _ c.args.self.trees c.if-self.false c.end-arg-1.given.1.0 c.end-at.ensures }
+invariant_of-rest c = record { near = c.args.self.near; trees = binds-behind _ _ _ c.args.self.trees c.if-self.false (_, search) c.end-at.ensures }
 
 pub returns : goal.returns
 returns c = binds-are _ _ _ c.args.self.trees c.if-self.false
-    (sym c.view_at.ensures ∙ c.in-Binding.is) c.end-arg-1.given.1.0 c.end-at.ensures c.result-1.given.1.0 c.result-in-Binding-1.given.1.0
+    (sym c.view_at.ensures ∙ c.in-Binding.is) (_, search) c.end-at.ensures (_, search) c.result-in-Binding-1.given.1.0

@@ -22,7 +22,7 @@ invariant_of-left c = record { near = c.args.self.near; tree = (asked-as _ _ c.a
 pub invariant_of-result : goal.invariant_of-result
 invariant_of-result c = record {
   near = c.args.self.near;
-  tree = right-side _ _ _ _ (asked-as _ _ c.args.self.tree (sym c.view_at.ensures ∙ c.in-Equal.is)) c.end-arg-1.given.1.0 c.end-at.ensures;
+  tree = right-side _ _ _ _ (asked-as _ _ c.args.self.tree (sym c.view_at.ensures ∙ c.in-Equal.is)) (_, search) c.end-at.ensures;
 }
 
 pub invariant_of-result-in-IsDim : goal.invariant_of-result-in-IsDim
@@ -47,19 +47,19 @@ unreachable-requires-in_default c = let d = c.in_default in
     asks-some _ _ c.args.self.tree _ c.view_at.ensures d.not-Equal d.not-IsDim d.not-IsScalar d.not-HasField
 
 pub unreachable-requires : goal.unreachable-requires
-unreachable-requires c = scalar-some _ _ _ (asked-as _ _ c.args.self.tree (sym c.view_at.ensures ∙ c.in-IsScalar.is)) c.shape-arg-1.given.1.0 _
+unreachable-requires c = scalar-some _ _ _ (asked-as _ _ c.args.self.tree (sym c.view_at.ensures ∙ c.in-IsScalar.is)) (_, search) _
     c.shape.ensures c.in_default-shape.not-Dimension
 
 pub returns-in-Equal : goal.returns-in-Equal
-returns-in-Equal c = both-sides _ _ _ _ (asked-as _ _ c.args.self.tree (sym c.view_at.ensures ∙ c.in-Equal.is)) c.end-arg-1.given.1.0 c.end-at.ensures
-    c.result-1.given.1.0 c.result-in-Equal-1.given.1.0
+returns-in-Equal c = both-sides _ _ _ _ (asked-as _ _ c.args.self.tree (sym c.view_at.ensures ∙ c.in-Equal.is)) (_, search) c.end-at.ensures
+    (_, search) c.result-in-Equal-1.given.1.0
 
 pub returns-in-IsDim : goal.returns-in-IsDim
 returns-in-IsDim c = let x = asked-as _ _ c.args.self.tree (sym c.view_at.ensures ∙ c.in-IsDim.is) in
     ap isDim (only _ _ _ _ c.result-in-IsDim-1.given.1.0.1 x.0.1) ∙ sym x.1
 
 pub returns-in-Dimension : goal.returns-in-Dimension
-returns-in-Dimension c = scalar-is _ _ _ (asked-as _ _ c.args.self.tree (sym c.view_at.ensures ∙ c.in-IsScalar.is)) c.shape-arg-1.given.1.0
+returns-in-Dimension c = scalar-is _ _ _ (asked-as _ _ c.args.self.tree (sym c.view_at.ensures ∙ c.in-IsScalar.is)) (_, search)
     c.in-Dimension.ensures
 
 pub returns-in-HasField : goal.returns-in-HasField

@@ -15,8 +15,8 @@ pub invariant_of-first : goal.invariant_of-first
 invariant_of-first c = record { near = c.args.self.near; tree = field_tree _ _ _ c.args.self.trees c.if-self-eq0.false }
 
 pub invariant_of-rest : goal.invariant_of-rest
-invariant_of-rest c = record { near = c.args.self.near; trees = rest_fields _ _ _ c.args.self.trees c.if-self-eq0.false c.end-arg-1.given.1.0 c.end-at.ensures }
+invariant_of-rest c = record { near = c.args.self.near; trees = rest_fields _ _ _ c.args.self.trees c.if-self-eq0.false (_, search) c.end-at.ensures }
 
 pub returns : goal.returns
 returns c = fields-are _ _ _ c.args.self.trees c.if-self-eq0.false
-    (sym c.view_at.ensures ∙ c.in-Field.is) c.end-arg-1.given.1.0 c.end-at.ensures c.result-1.given.1.0 c.result-in-Field-1.given.1.0
+    (sym c.view_at.ensures ∙ c.in-Field.is) (_, search) c.end-at.ensures (_, search) c.result-in-Field-1.given.1.0

@@ -24,10 +24,11 @@ pub invariant_of-result : goal.invariant_of-result
 invariant_of-result c =
     let word : Words32 c.args.words.now = record { word = λ i. (c.type_inv.words i).fits } in
     let t = table-is _ bindingsGiven c.args.names c.in_ok-names.names c.in_ok-names.ensures in
-    record { fine = is-known _ _ _ (bindings-held _ _ _ word _ c.all.ensures t.0 (whole _ _ c.in_ok-passed.ensures)) c.result-1.given.1.0 }
+    record { fine = is-known _ _ _ (bindings-held _ _ _ word _ c.all.ensures t.0 (whole _ _ c.in_ok-passed.ensures)) _ (search) }
 
 pub returns-clause-answer : goal.returns-clause-answer
 returns-clause-answer c =
     let word : Words32 c.args.words.now = record { word = λ i. (c.type_inv.words i).fits } in
     let t = table-is _ bindingsGiven c.args.names c.in_ok-names.names c.in_ok-names.ensures in
-    comes-to _ bindingsGiven c.args.names _ c.in_ok-names.ensures (is-given _ _ _ (bindings-held _ _ _ word _ c.all.ensures t.0 (whole _ _ c.in_ok-passed.ensures)) c.result-1.given.1.0)
+    comes-to _ bindingsGiven c.args.names _ c.in_ok-names.ensures
+    (is-given _ _ _ (bindings-held _ _ _ word _ c.all.ensures t.0 (whole _ _ c.in_ok-passed.ensures)) _ (search))

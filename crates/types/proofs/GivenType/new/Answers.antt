@@ -23,9 +23,10 @@ invariant_of-whole c =
 pub invariant_of-result : goal.invariant_of-result
 invariant_of-result c =
     let word : Words32 c.args.words.now = record { word = λ i. (c.type_inv.words i).fits } in
-    record { good = is-known _ _ _ (type-held _ _ _ word _ c.is_type.ensures (whole _ _ c.in_ok-passed.ensures)) c.result-1.given.1.0 }
+    record { good = is-known _ _ _ (type-held _ _ _ word _ c.is_type.ensures (whole _ _ c.in_ok-passed.ensures)) _ (search) }
 
 pub returns-clause-answer : goal.returns-clause-answer
 returns-clause-answer c =
     let word : Words32 c.args.words.now = record { word = λ i. (c.type_inv.words i).fits } in
-    comes-to _ typeGiven c.args.names _ c.in_ok-names.ensures (is-given _ _ _ (type-held _ _ _ word _ c.is_type.ensures (whole _ _ c.in_ok-passed.ensures)) c.result-1.given.1.0)
+    comes-to _ typeGiven c.args.names _ c.in_ok-names.ensures
+    (is-given _ _ _ (type-held _ _ _ word _ c.is_type.ensures (whole _ _ c.in_ok-passed.ensures)) _ (search))

@@ -42,7 +42,7 @@ invariant_of-parameters c = record { near = c.args.self.near; trees = parameters
 pub invariant_of-result-in-Function : goal.invariant_of-result-in-Function
 invariant_of-result-in-Function c = record {
   near = c.args.self.near;
-  tree = return-of _ _ c.args.self.tree (sym c.view_at.ensures ∙ c.in-Function.is) c.end-arg-1.given.1.0 c.end-at.ensures;
+  tree = return-of _ _ c.args.self.tree (sym c.view_at.ensures ∙ c.in-Function.is) (_, search) c.end-at.ensures;
 }
 
 pub invariant_of-arguments : goal.invariant_of-arguments
@@ -72,7 +72,7 @@ returns-in-Dim c = dim-is _ _ c.args.self.tree (sym c.view_at.ensures ∙ c.in-D
 
 pub returns-in-Function : goal.returns-in-Function
 returns-in-Function c = function-is _ _ c.args.self.tree
-    (sym c.view_at.ensures ∙ c.in-Function.is) c.end-arg-1.given.1.0 c.end-at.ensures c.result-in-Function-1.given.1.0 c.result-in-Function-2-1.given.1.0
+    (sym c.view_at.ensures ∙ c.in-Function.is) (_, search) c.end-at.ensures c.result-in-Function-1.given.1.0 c.result-in-Function-2-1.given.1.0
 
 pub returns-in-Struct : goal.returns-in-Struct
 returns-in-Struct c = struct-is _ _ c.args.self.tree

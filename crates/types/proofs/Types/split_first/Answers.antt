@@ -11,8 +11,8 @@ invariant_of-first c = record { near = c.args.self.near; tree = first_tree _ _ _
 pub invariant_of-rest : goal.invariant_of-rest
 invariant_of-rest c = record {
   near = c.args.self.near;
-  trees = rest_trees _ _ _ _ c.args.self.trees c.if-self-eq0.false c.end-arg-1.given.1.0 c.end-at.ensures;
+  trees = rest_trees _ _ _ _ c.args.self.trees c.if-self-eq0.false (_, search) c.end-at.ensures;
 }
 
 pub returns : goal.returns
-returns c = both-are _ _ _ _ c.args.self.trees c.if-self-eq0.false c.end-arg-1.given.1.0 c.end-at.ensures c.result-1.given.1.0 c.result-2-1.given.1.0
+returns c = both-are _ _ _ _ c.args.self.trees c.if-self-eq0.false (_, search) c.end-at.ensures (_, search) (_, search)
