@@ -20,4 +20,4 @@ invariant_of-rest c = record { near = c.args.self.near; trees = binds-behind _ _
 
 pub returns : goal.returns
 returns c = binds-are _ _ _ c.args.self.trees c.if-self.false
-    (sym c.view_at.ensures ∙ c.in-Binding.is) (_, search) c.end-at.ensures (_, search) c.result-in-Binding-1.given.1.0
+    (sym c.view_at.ensures ∙ c.in-Binding.is) (_, search) c.end-at.ensures (_, search) (_, search)

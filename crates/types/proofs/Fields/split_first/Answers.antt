@@ -19,4 +19,4 @@ invariant_of-rest c = record { near = c.args.self.near; trees = rest_fields _ _ 
 
 pub returns : goal.returns
 returns c = fields-are _ _ _ c.args.self.trees c.if-self-eq0.false
-    (sym c.view_at.ensures ∙ c.in-Field.is) (_, search) c.end-at.ensures (_, search) c.result-in-Field-1.given.1.0
+    (sym c.view_at.ensures ∙ c.in-Field.is) (_, search) c.end-at.ensures (_, search) (_, search)

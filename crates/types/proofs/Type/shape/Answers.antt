@@ -51,7 +51,7 @@ invariant_of-arguments c = record { near = c.args.self.near; trees = arguments-o
 pub invariant_of-fields : goal.invariant_of-fields
 invariant_of-fields c = record {
   near = c.args.self.near;
-  trees = fields-of _ _ c.args.self.tree (sym c.view_at.ensures ∙ c.in-Struct.is) c.end-arg-in-Struct-1.given.1.0 c.end-at-in-Struct.ensures;
+  trees = fields-of _ _ c.args.self.tree (sym c.view_at.ensures ∙ c.in-Struct.is) (_, search) c.end-at-in-Struct.ensures;
 }
 
 pub invariant_of-result-in-List : goal.invariant_of-result-in-List
@@ -72,12 +72,12 @@ returns-in-Dim c = dim-is _ _ c.args.self.tree (sym c.view_at.ensures ∙ c.in-D
 
 pub returns-in-Function : goal.returns-in-Function
 returns-in-Function c = function-is _ _ c.args.self.tree
-    (sym c.view_at.ensures ∙ c.in-Function.is) (_, search) c.end-at.ensures c.result-in-Function-1.given.1.0 c.result-in-Function-2-1.given.1.0
+    (sym c.view_at.ensures ∙ c.in-Function.is) (_, search) c.end-at.ensures (_, search) c.result-in-Function-2-1.given.1.0
 
 pub returns-in-Struct : goal.returns-in-Struct
 returns-in-Struct c = struct-is _ _ c.args.self.tree
-    (sym c.view_at.ensures ∙ c.in-Struct.is) c.end-arg-in-Struct-1.given.1.0 c.end-at-in-Struct.ensures c.result-in-Struct-1.given.1.0
+    (sym c.view_at.ensures ∙ c.in-Struct.is) (_, search) c.end-at-in-Struct.ensures (_, search)
     c.result-in-Struct-2-1.given.1.0
 
 pub returns-in-List : goal.returns-in-List
-returns-in-List c = list-is _ _ c.args.self.tree (sym c.view_at.ensures ∙ c.in-List.is) c.result-in-List-1.given.1.0
+returns-in-List c = list-is _ _ c.args.self.tree (sym c.view_at.ensures ∙ c.in-List.is) (_, search)
