@@ -1,8 +1,8 @@
 // An answer in bytes.
 ghost use Rattle.std.specs.Prelude.{◌≡◌, ◌≤◌, IfOk};
 ghost use Rattle.serve.specs.Bytes.{bytes_of};
-ghost use Rattle.serve.specs.Requests.{faultNumber};
-ghost use Rattle.serve.specs.Replies.{faultAs, flagOf, flags_of, answerOf, behindOf, replyTo, faultReply};
+ghost use Rattle.serve.specs.Requests.{faultNumber, lent_as};
+ghost use Rattle.serve.specs.Replies.{faultAs, flagOf, flags_of, answerOf, behindOf, saidBy, dispatchOn, replyTo, faultReply};
 
 use crate::coding::put_words;
 use crate::lent::Lent;
@@ -85,12 +85,10 @@ fn behind(
     Ok(words)
 }
 
-/// What is written for a request that can be served: what its call says on what was sent, and what the buffers hold then.
-#[tactic(auto, unfolding(crate::specs::Replies::replyTo))]
-pub fn reply(alloc: Global, call: Call, h: Header, body: &[u8]) -> Result<Vec<u8>, AllocError>
-    ensures { IfOk result (λ v. v.items ≡ replyTo call h body.now) }
+// What a call answers on what is lent to it.
+fn answer(alloc: Global, call: Call, h: Header, lent: &mut Lent) -> Result<Vec<u8>, AllocError>
+    ensures { IfOk result (λ v. v.items ≡ bytes_of (saidBy h (dispatchOn call h (lent_as lent.old)))) }
 {
-    let mut lent = Lent::new(alloc, h, body)?;
     let asked = Asked { x: h.x, y: h.y };
     let lists = Lists {
         a: &lent.a,
@@ -110,6 +108,15 @@ pub fn reply(alloc: Global, call: Call, h: Header, body: &[u8]) -> Result<Vec<u8
     let flags = flags(&told, h, &lent.result, &lent.work);
     let behind = behind(alloc, h, told.words, &lent.result, &lent.work)?;
     in_bytes(alloc, &told, flags, &behind)
+}
+
+/// What is written for a request that can be served: what its call says on what was sent, and what the buffers hold then.
+#[tactic(auto, unfolding(crate::specs::Replies::replyTo))]
+pub fn reply(alloc: Global, call: Call, h: Header, body: &[u8]) -> Result<Vec<u8>, AllocError>
+    ensures { IfOk result (λ v. v.items ≡ replyTo call h body.now) }
+{
+    let mut lent = Lent::new(alloc, h, body)?;
+    answer(alloc, call, h, &mut lent)
 }
 
 /// What is written for what is no request, by what is wrong with it.
