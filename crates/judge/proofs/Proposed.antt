@@ -1,20 +1,18 @@
 -- Entries that were placed, as the walks and the checks ask for them.
-use Rattle.std.specs.Prelude.{◌≡◌, Bool, ℕ, ◌+◌, ◌≤◌, ◌<◌, eqb, length, get_or}
+use Rattle.std.specs.Prelude.{◌≡◌, ℕ, ◌≤◌, ◌<◌, eqb, length, get_or}
 use Rattle.std.proofs.Math.Path.{refl}
 use Rattle.std.proofs.Common.{ap}
-use Rattle.std.proofs.Math.Bool.{true, false, cond, and-eq-true_iff}
+use Rattle.std.proofs.Math.Bool.{true, false, and-eq-true_iff}
 use mathlib.Core.List.{List, [], ◌∷◌, map}
 use Rattle.std.proofs.Math.Option.{Option, none, some}
 use Rattle.std.proofs.Math.Decide.{dec_lt}
 use native.Mathlib.Omega.{arith}
-use borrow.Author.Tests.{ltb-true, ltb-false, ne_eqb}
-use Rattle.std.proofs.Math.Dec.{ltb}
-use Rattle.std.proofs.Math.ListN.{get_or-eq_default}
+use borrow.Author.Tests.{ltb-true, ne_eqb}
 use Rattle.rules.specs.Base.{all, any}
 use Rattle.rules.specs.Calls.{Entry}
 use Rattle.rules.specs.Names.{table_of, names_of, is_held}
 use Rattle.rules.specs.Replacing.{find, bindings}
-use Rattle.rules.specs.Trees.{Open, var, quant, par, Ty, Binding, ◌≔◌, size}
+use Rattle.rules.specs.Trees.{Open, Ty, Binding, ◌≔◌, size}
 use Rattle.rules.specs.WellFormed.{goodTy, goodBinding}
 use Rattle.laws.specs.NameTable.{Good, good-laid}
 use Rattle.laws.specs.Weaker.{ty-weaker}
@@ -25,6 +23,7 @@ use Rattle.judge_entries.specs.Tables as tables
 use Rattle.judge_entries.proofs.Answers.{Bound}
 use Rattle.replace.specs.Places.{SaysAt, word_of}
 use Rattle.replace.specs.Runs.{looked-good}
+use Rattle.replace_table.specs.Filling as filling
 use Rattle.judge_proposals.specs.Mixed.{variable, Table}
 use Rattle.judge_proposals.proofs.Order.{find-no}
 use Rattle.judge_trials.specs.Trials.{Put}
@@ -59,26 +58,8 @@ module _ (pool table types places : List ℕ) (es : List Entry) (bs : List (Bind
   says : (x : ℕ) → x < 256 → SaysAt types (get_or places x 0) (find (numbers pool table) bs x)
   says x l = same_word (get_or places x 0) (find (numbers pool table) bs x) (b.tabled.says x l)
 
-  past : (k : ℕ) → 256 ≤ k → get_or places k 0 ≡ 0
-  past k le = get_or-eq_default places 0 (omega (arith, long))
-
-  unbound : (x : ℕ) → 256 ≤ x → (m : Option (Ty ℕ)) → find (numbers pool table) bs x ≡ m → SaysAt types 0 m
-  unbound x le none e = refl
-  unbound x le (some t) e = absurd (omega (arith, below x t e))
-
   word : (o : Open ℕ) → SaysAt types (word_of places o) (look o)
-  unfolding bindings
-  word (var x) = go (ltb x 256) refl
-    where
-      go : (c : Bool) → ltb x 256 ≡ c → SaysAt types (cond c (get_or places (0 + x) 0) 0) (find (numbers pool table) bs x)
-      go true q = let z : 0 + x ≡ x = omega arith in rw z (says x (ltb-true x 256 q))
-      go false q = unbound x (ltb-false x 256 q) (find (numbers pool table) bs x) refl
-  word (quant i) = past (512 + i) (omega arith)
-  word (par x) = go (ltb x 256)
-    where
-      go : (c : Bool) → cond c (get_or places (256 + x) 0) 0 ≡ 0
-      go true = past (256 + x) (omega arith)
-      go false = refl
+  word = filling.word (numbers pool table) places types bs long below says
 
   few : (o : Open ℕ) (t : Ty ℕ) → look o ≡ some t → size t ≤ 2048
   few o t e = go (look o) (word o) e

@@ -41,6 +41,7 @@ use Rattle.records.specs.Schemes.{bound-reader}
 use Rattle.queries.specs.declared.name_set.NameSet.{NameSet}
 use Rattle.queries.specs.Marks.{Has}
 use Rattle.types.specs.Given.{over_table, set_over}
+use Rattle.types.proofs.Tested.{kept, as-refused}
 use Rattle.judge.specs.Told.{judgedAs}
 
 -- 10
@@ -131,20 +132,12 @@ module _ (set types bounds : List ℕ) (es : List Entry) where
 
   -- ══ Met ══
 
-  kept : (n : NameTable) → tableKept (table_of n.pool.now n.table.now) ≡ got tt
-  unfolding tableKept
-  kept n = rw n.good.good
-
   unmet : {A B : Type 0} (S K : Got (Unit {0})) (M : Got A) (f : A → Got B) (n : ℕ) → K ≡ got tt → refused n ≡ (S >> M)
       → (S >>= λ _. K >>= λ _. M >>= f) ≡ refused n
   unmet (refused i) K M f n h e = cc
   unmet (got x) (refused i) M f n h e = clash h
   unmet (got x) (got y) (refused i) f n h e = cc
   unmet (got x) (got y) (got a) f n h e = clash e
-
-  as-refused : {A B : Type 0} (l : Got (Unit {0})) (n k : ℕ) → ◌≡◌ {A = Got A} (refused n) (l >> refused k) → ◌≡◌ {A = Got B} (l >> refused k) (refused n)
-  as-refused (refused i) n k e = cc
-  as-refused (got x) n k e = cc
 
   short-all : (a b c d : Bool) → (need (a && (b && (c && true))) 8 >> need d 8) ≡ got tt → (a ≡ true) × ((b ≡ true) × (d ≡ true))
   short-all true true true true e = (refl, (refl, refl))

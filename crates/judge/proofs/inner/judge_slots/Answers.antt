@@ -8,7 +8,8 @@ use Rattle.judge.specs.Entry.{call-short, called, all-lent, tested}
 use Rattle.judge.proofs.inner.judge_slots.Goals as goal
 
 pub returns-then-not-lent : goal.returns-then-not-lent
-returns-then-not-lent c = λ es h. call-short c.args.pool.now c.args.table.now c.args.set.now c.args.proposal.types.now c.args.proposal.bounds.now c.args.work.now es
+returns-then-not-lent c = λ es h.
+    call-short c.args.pool.now c.args.table.now c.args.set.now c.args.proposal.types.now c.args.proposal.bounds.now c.args.work.now es
     (Err ShortBuffer) refl (sym c.lent.ensures ∙ ap (λ (b : Bool). need b 10) (c.if-not-lent.true))
 
 pub judge_set-answer-requires : goal.judge_set-answer-requires
