@@ -1,13 +1,8 @@
 // The words of the command line.
 ghost use Rattle.std.specs.Prelude.{◌≡◌, ◌+◌, [], length, OnOk};
 
-use anyhow::{Result, bail};
+use anyhow::Result;
 use std::alloc::Global;
-use std::env::FillError;
-use std::rt::Env;
-
-/// No word of a command line is longer (Linux's MAX_ARG_STRLEN).
-const WORD_BYTES: usize = 131_072;
 
 /// The words of the command line. One that isn't UTF-8 is held with marks of replacement, and no file can be opened by it.
 #[derive(Drop)]
@@ -17,21 +12,6 @@ pub struct Words {
 }
 
 impl Words {
-    /// Those that the program was called with; nothing can be said of what these are.
-    pub fn read<R: Env + AllocGlobal>(rt: &R) -> Result<Words> {
-        let alloc = rt.alloc();
-        let mut buf = vec![in alloc; 0u8; WORD_BYTES]?;
-        let mut words = Words::new(alloc);
-        for i in 0..usize::MAX {
-            match rt.arg(i, &mut buf) {
-                Ok(n) => words.add(&buf[..n])?,
-                Err(FillError::NotPresent) => break,
-                Err(FillError::TooLong) => bail!("argument {i} has over {WORD_BYTES} bytes"),
-            }
-        }
-        Ok(words)
-    }
-
     /// None yet.
     pub fn new(alloc: Global) -> Words
         ensures { result.all.items ≡ [] }
