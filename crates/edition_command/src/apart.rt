@@ -1,20 +1,17 @@
 // Sheets each over a name table of its own.
-ghost use Rattle.std.specs.Prelude.{◌≡◌, ◌++◌, [], ◌∷◌, OnOk};
-ghost use Rattle.edition_command.specs.Given.{pagesTold};
-
 use crate::certificate::Certificate;
-use crate::files::{Given, read};
-use crate::front::Front;
+use crate::files::read;
 use crate::listing::list;
 use crate::notes::Notes;
 use crate::options::Options;
-use crate::status::Totals;
-use crate::tables::Tables;
 use crate::words::Words;
-use crate::written::Written;
 use anyhow::{Context, Result};
-use edition::model::{How, Room};
-use edition::telling::tell_each;
+use edition::model::Room;
+use edition_checks::alone::tell_alone;
+use edition_checks::files::Given;
+use edition_checks::front::Front;
+use edition_checks::status::Totals;
+use edition_checks::written::Written;
 use edition_report::words::put_total;
 use std::alloc::Global;
 use std::io;
@@ -30,34 +27,26 @@ struct Apart {
     room: Room,
 }
 
-// Tells of one sheet: its page is that of the edition that it is alone, and so is its why, if that is asked for.
+// Tells of one sheet, lists its names if that was asked for, and says what is noted.
 fn check_one<R: Eprint + AllocGlobal, W: Write + Drop>(
     rt: &R,
     given: &Given,
     options: Options,
     so_far: &mut Apart,
     out: &mut Written<W>,
-) -> Result<()>
-    ensures { OnOk result (out.new.passed.items ≡ out.old.passed.items ++ pagesTold options.entry.why options.entry.shown (given.now ∷ [])) }
-{
+) -> Result<()> {
     let alloc = rt.alloc();
     let files = [given.file()];
-    let mut tables = Tables::new(alloc)?;
-    let sheets = tables.read(alloc, &files, &mut so_far.room)?;
-    let how = How {
-        shown: options.shown,
-        why: options.why,
-    };
-    let accepted = tell_each(tables.names()?, how, &sheets, &mut so_far.room, out).context(
-        "the report can't be written",
-    )?;
+    let told = tell_alone(alloc, given, options.how, &mut so_far.room, out)?;
     if options.names {
         so_far.listed.extend_from_slice(&list(alloc, &files)?)?;
     }
     let mut notes = Notes::new(alloc);
-    notes.add(tables.names()?, &files)?;
+    notes.add(told.tables.names()?, &files)?;
     notes.tell(rt);
-    so_far.totals = so_far.totals.and(accepted, tables.count(), notes.count);
+    so_far.totals = so_far
+        .totals
+        .and(told.accepted, told.tables.count(), notes.count);
     Ok(())
 }
 

@@ -1,10 +1,10 @@
 // What an auditor keeps of an edition, as text: of each accepted sheet its digest, and lines that make its constraints true.
-use crate::tables::Tables;
 use crate::told::lines_below;
 use anyhow::{Context, Result, bail};
 use edition::model::{File, Room};
 use edition::telling::tell_sheet;
 use edition_certificate_file::{Entry, certificate_text};
+use edition_checks::tables::Tables;
 use edition_verify::keep;
 use rules::Shown;
 use std::alloc::{AllocError, Global};

@@ -2,10 +2,10 @@
 use crate::certificate::write_file;
 use crate::notes::Notes;
 use crate::options::Options;
-use crate::status::Totals;
 use crate::told::{Line, Report, SheetTold, lines_below, tell};
 use crate::words::Words;
 use anyhow::{Context, Result};
+use edition_checks::status::Totals;
 use edition_html::put_text;
 use edition_report::words::{put_amount, put_total};
 use std::alloc::{AllocError, Global};

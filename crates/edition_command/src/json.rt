@@ -1,10 +1,10 @@
 // An edition's report as one value of JSON.
 use crate::notes::Notes;
 use crate::options::Options;
-use crate::status::Totals;
 use crate::told::{Line, Report, SheetTold, lines_below, tell};
 use crate::words::Words;
 use anyhow::{Context, Result};
+use edition_checks::status::Totals;
 use serde_json::{Map, Value, put};
 use std::alloc::{AllocError, Global};
 use std::io;

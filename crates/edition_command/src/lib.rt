@@ -5,29 +5,23 @@
 mod apart;
 mod certificate;
 mod files;
-mod front;
 mod html;
 mod json;
 mod listing;
 mod notes;
 mod options;
-mod status;
-mod tables;
-#[cfg(test)]
-mod tests;
 mod together;
 mod told;
 mod verify;
 mod words;
-mod written;
 
 ghost use Rattle.std.specs.Prelude.{◌≡◌, OnErr};
 
 use anyhow::{Error, Result, anyhow};
 use clap::error::ErrorKind;
+pub use edition_checks::status::Status;
+use edition_checks::status::{Totals, status_of};
 use options::{Form, Options, command};
-pub use status::Status;
-use status::{Totals, status_of};
 use std::rt::Files;
 pub use words::Words;
 

@@ -1,7 +1,7 @@
 // The names of sheets: each with the sheet that has it first.
-use crate::tables::Tables;
 use anyhow::Result;
 use edition::model::{File, Room, Sheet};
+use edition_checks::tables::Tables;
 use edition_report::shown::put_shown;
 use names::tables::NameTable;
 use std::alloc::Global;

@@ -1,5 +1,6 @@
 // The command line.
 use clap::{Arg, ArgAction, ArgMatches, Command};
+use edition::model::How;
 use rules::Shown;
 use std::alloc::{AllocError, Global};
 
@@ -15,11 +16,10 @@ pub(crate) enum Form<'a> {
 /// What was asked for beside the files.
 #[derive(Clone, Copy)]
 pub(crate) struct Options<'a> {
-    pub shown: Shown,
+    pub how: How,
     pub form: Form<'a>,
     pub certificate: Option<&'a str>,
     pub names: bool,
-    pub why: bool,
     pub separate: bool,
     pub strict: bool,
 }
@@ -28,15 +28,17 @@ impl<'a> Options<'a> {
     /// By the flags that were given.
     pub(crate) fn of(matches: &'a ArgMatches) -> Options<'a> {
         Options {
-            shown: if matches.get_flag("quiet") {
-                Shown::Quiet
-            } else {
-                Shown::All
+            how: How {
+                shown: if matches.get_flag("quiet") {
+                    Shown::Quiet
+                } else {
+                    Shown::All
+                },
+                why: matches.get_flag("why"),
             },
             form: form_of(matches),
             certificate: matches.get_str("certificate"),
             names: matches.get_flag("names"),
-            why: matches.get_flag("why"),
             separate: matches.get_flag("separate"),
             strict: matches.get_flag("strict"),
         }
@@ -44,7 +46,7 @@ impl<'a> Options<'a> {
 
     /// Is it told which lines conflict? A page to look at always tells it.
     pub(crate) fn is_why_told(self) -> bool {
-        self.why || matches!(self.form, Form::Html(_))
+        self.how.why || matches!(self.form, Form::Html(_))
     }
 }
 

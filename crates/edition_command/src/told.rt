@@ -1,16 +1,17 @@
 // What is told of each sheet, for whoever shows it in another form than lines.
-use crate::files::{Given, lend, read};
-use crate::front::Front;
+use crate::files::read;
 use crate::listing::new_names;
 use crate::notes::Notes;
 use crate::options::Options;
-use crate::status::Totals;
-use crate::tables::Tables;
 use crate::words::Words;
 use anyhow::Result;
 use edition::model::{Room, Sheet};
 use edition::telling::tell_sheet;
 use edition::why::conflict_in;
+use edition_checks::files::{Given, lend};
+use edition_checks::front::Front;
+use edition_checks::status::Totals;
+use edition_checks::tables::Tables;
 use edition_report::lines::{constraint_line, line_in};
 use edition_report::pages::Outcome;
 use names::tables::NameTable;
@@ -141,7 +142,7 @@ impl Report {
             } else {
                 Vec::new(alloc)
             };
-            if options.shown == Shown::All || !outcome.is_accepted() {
+            if options.how.shown == Shown::All || !outcome.is_accepted() {
                 self.sheets.push(SheetTold {
                     name: Vec::from_slice(alloc, sheet.name)?,
                     accepted: outcome.is_accepted(),

@@ -1,22 +1,17 @@
 // Sheets judged by a certificate, with nothing solved: a line for each.
-ghost use Rattle.std.specs.Prelude.{◌≡◌, ◌≤◌, ◌++◌, OnOk, IfOk};
-ghost use Rattle.laws.specs.Lists.{Every};
-ghost use Rattle.edition_certificate_file.specs.Files.{IsReadFrom};
-ghost use Rattle.edition_verify.specs.Verifying.{TrueBy, sheetsIn, verifiedIn, verifiedText};
-ghost use Rattle.edition_command.specs.Given.{given_of};
 
-use crate::files::{Given, lend, read_all};
-use crate::status::Totals;
+use crate::files::read_all;
 use crate::words::Words;
-use crate::written::Written;
 use anyhow::{Context, Result};
 use edition_certificate_file::{Entry, Fault, read_certificate};
+use edition_checks::by_certificate::verify_on;
+use edition_checks::status::Totals;
+use edition_checks::written::Written;
 use edition_report::shown::put_shown;
 use edition_report::words::put_amount;
-use edition_verify::verify_files;
 use filling::fill_front;
 use rules::Unseen;
-use std::alloc::{AllocError, Global};
+use std::alloc::AllocError;
 use std::io::{BufWriter, Write};
 use std::rt::Files;
 use std::{fs, io};
@@ -96,31 +91,6 @@ fn kept_in<R: Files + AllocGlobal>(rt: &R, path: &str) -> Result<Result<Vec<Entr
             Ok(Err(line))
         }
     }
-}
-
-/// Judges files by what a certificate keeps: what is passed on is what the definition says, byte by byte, and so are the counts; and where every sheet is
-/// counted as verified, each file is the one that was certified, and true.
-pub(crate) fn verify_on<W: Write + Drop>(
-    alloc: Global,
-    entries: &[Entry],
-    given: &[Given],
-    to: &mut Written<W>,
-) -> Result<Totals>
-    ensures told { OnOk result (to.new.passed.items ≡ to.old.passed.items ++ verifiedText entries.now (given_of given.now)) }
-    ensures sheets { IfOk result (λ t. t.sheets ≡ sheetsIn entries.now (given_of given.now)) }
-    ensures verified { IfOk result (λ t. t.accepted ≡ verifiedIn entries.now (given_of given.now)) }
-    ensures truth { IfOk result (λ t. t.sheets ≤ t.accepted → Every (TrueBy entries.now) (given_of given.now)) }
-{
-    let files = lend(alloc, given)?;
-    let mut lines = Vec::new(alloc);
-    let verified = verify_files(alloc, entries, &files, &mut lines)?;
-    to.put(&lines).context("what is verified can't be written")?;
-    Ok(Totals {
-        sheets: verified.sheets,
-        accepted: verified.verified,
-        names: 0,
-        notes: 0,
-    })
 }
 
 /// Judges the files with these names by the certificate in the file at `path`; where there is none, no sheet is verified.

@@ -9,8 +9,8 @@ use Rattle.text_spell.specs.Sinks.{Place, Puts}
 use Rattle.edition.specs.Files.{files_of, text_of as lent_text}
 use Rattle.edition.specs.Pages.{done}
 use Rattle.edition.specs.declared.model.File.{File}
-use Rattle.edition_command.specs.declared.files.Given.{Given}
-use Rattle.edition_command.specs.Given.{editionOf, text_of}
+use Rattle.edition_checks.specs.declared.files.Given.{Given}
+use Rattle.edition_checks.specs.Given.{editionOf, text_of}
 
 -- the edition of a file that is lent, over a table without names
 pub edition_alone : (p t : List ℕ) (f : File) (g : Given) → p ≡ replicate 8192 0 → t ≡ replicate 257 0 → f.name.now ≡ g.name.now → lent_text f ≡ text_of g

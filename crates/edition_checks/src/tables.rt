@@ -11,14 +11,14 @@ use std::alloc::Global;
 
 /// A pool and a table of names.
 #[derive(Drop)]
-pub(crate) struct Tables {
+pub struct Tables {
     pub pool: Vec<u8>,
     pub table: Vec<u32>,
 }
 
 impl Tables {
     /// No name is held.
-    pub(crate) fn new(alloc: Global) -> Result<Tables>
+    pub fn new(alloc: Global) -> Result<Tables>
         ensures pool { IfOk result (λ t. t.pool.items ≡ replicate 8192 0) }
         ensures table { IfOk result (λ t. t.table.items ≡ replicate 257 0) }
     {
@@ -29,7 +29,7 @@ impl Tables {
     }
 
     /// The names that are held.
-    pub(crate) fn names(&self) -> Result<NameTable<'_>>
+    pub fn names(&self) -> Result<NameTable<'_>>
         ensures { IfOk result (λ t. (t.pool.now ≡ self.now.pool.items) × (t.table.now ≡ self.now.table.items)) }
     {
         match NameTable::new(&self.pool, &self.table) {
@@ -39,7 +39,7 @@ impl Tables {
     }
 
     /// How many names are held.
-    pub(crate) fn count(&self) -> usize {
+    pub fn count(&self) -> usize {
         match self.table.first() {
             Some(count) => *count as usize,
             None => 0,
@@ -47,7 +47,7 @@ impl Tables {
     }
 
     /// Reads files, one after another.
-    pub(crate) fn read<'a>(
+    pub fn read<'a>(
         &mut self,
         alloc: Global,
         files: &[File<'a>],

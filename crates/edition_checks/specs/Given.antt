@@ -8,7 +8,7 @@ use Rattle.rules.specs.declared.Unseen.{Unseen}
 use Rattle.rules.specs.declared.Unseen.TheVariants.{NotOpened, NotRead, TooLong}
 use Rattle.std.specs.declared.alloc.Global.{Global}
 use Rattle.edition.specs.Why.{pageTold}
-use Rattle.edition_command.specs.declared.files.Given.{Given}
+use Rattle.edition_checks.specs.declared.files.Given.{Given}
 
 -- a file's bytes, or why they can't be had
 abbrev pub text_of : Given → Result Bytes Unseen

@@ -1,10 +1,10 @@
 // What a run comes to, and its exit status.
 ghost use Rattle.std.specs.Prelude.{◌≡◌, ◌||◌, ◌&&◌, ltb, if◌then◌else◌};
-ghost use Rattle.edition_command.specs.Status.{code_of};
+ghost use Rattle.edition_checks.specs.Status.{code_of};
 
 /// What was counted: sheets, those that are accepted, the names of the fullest table, and notes.
 #[derive(Clone, Copy)]
-pub(crate) struct Totals {
+pub struct Totals {
     pub sheets: usize,
     pub accepted: usize,
     pub names: usize,
@@ -13,7 +13,7 @@ pub(crate) struct Totals {
 
 impl Totals {
     /// Of no sheet.
-    pub(crate) const NONE: Totals = Totals {
+    pub const NONE: Totals = Totals {
         sheets: 0,
         accepted: 0,
         names: 0,
@@ -21,7 +21,7 @@ impl Totals {
     };
 
     /// With a sheet more: is it accepted (1) or not (0), how many names has its table, and how many notes are there?
-    pub(crate) fn and(self, accepted: usize, names: usize, notes: usize) -> Totals {
+    pub fn and(self, accepted: usize, names: usize, notes: usize) -> Totals {
         Totals {
             sheets: self.sheets.saturating_add(1),
             accepted: self.accepted.saturating_add(accepted),
@@ -59,7 +59,7 @@ impl Status {
 }
 
 /// What a whole report comes to: accepted where every sheet is and, strictly, nothing was noted.
-pub(crate) fn status_of(totals: Totals, strict: bool) -> Status
+pub fn status_of(totals: Totals, strict: bool) -> Status
     ensures { result ≡ (if ltb totals.accepted totals.sheets || (strict && ltb 0 totals.notes) then Status.Refused else Status.Accepted) }
 {
     if totals.accepted < totals.sheets || (strict && 0 < totals.notes) {

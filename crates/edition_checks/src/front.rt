@@ -1,6 +1,6 @@
 // Room to read a sheet in.
 ghost use Rattle.std.specs.Prelude.{◌≡◌, List, ℕ, length, IfOk, Some};
-ghost use Rattle.edition_command.specs.Given.{IsSheetOf};
+ghost use Rattle.edition_checks.specs.Given.{IsSheetOf};
 
 use filling::fill_front;
 use rules::Unseen;
@@ -12,20 +12,20 @@ const SHEET_BYTES: usize = 1_048_576;
 
 /// Room for the bytes of a sheet, and for one that is too many.
 #[derive(Drop)]
-pub(crate) struct Front {
+pub struct Front {
     bytes: Vec<u8>,
     ghost wide: { length bytes.items ≡ 1048577 },
 }
 
 impl Front {
     /// All zero.
-    pub(crate) fn new(alloc: Global) -> Result<Front, AllocError> {
+    pub fn new(alloc: Global) -> Result<Front, AllocError> {
         let bytes = vec![in alloc; 0u8; SHEET_BYTES + 1]?;
         Ok(Front { bytes })
     }
 
     /// The bytes of a reader up to its end, if they are a sheet's.
-    pub(crate) fn read_sheet<R: Read>(
+    pub fn read_sheet<R: Read>(
         &mut self,
         alloc: Global,
         reader: &mut R,

@@ -9,14 +9,14 @@ use text_spell::sink::Sink;
 
 /// Bytes that were passed on to a writer: what a contract says of them, it says of `passed`, since nothing can be said of a terminal or a file.
 #[derive(Drop)]
-pub(crate) struct Written<W: Write + Drop> {
+pub struct Written<W: Write + Drop> {
     pub passed: Vec<u8>,
     to: W,
 }
 
 impl<W: Write + Drop> Written<W> {
     /// Nothing yet.
-    pub(crate) fn new(alloc: Global, to: W) -> Written<W>
+    pub fn new(alloc: Global, to: W) -> Written<W>
         ensures { result.passed.items ≡ [] }
     {
         Written {

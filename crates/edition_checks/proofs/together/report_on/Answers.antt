@@ -1,7 +1,7 @@
 -- The table is one without names, and the files are those that were given.
 use Rattle.edition.specs.Told.{plain-is}
-use Rattle.edition_command.specs.Given.{editionOf}
-use Rattle.edition_command.proofs.together.report_on.Goals as goal
+use Rattle.edition_checks.specs.Given.{editionOf}
+use Rattle.edition_checks.proofs.together.report_on.Goals as goal
 
 pub returns-in-Ok-clause-told : goal.returns-in-Ok-clause-told
 returns-in-Ok-clause-told g c =

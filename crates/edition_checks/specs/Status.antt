@@ -1,7 +1,7 @@
 -- The exit status.
 use Rattle.std.specs.Prelude.{ℕ}
-use Rattle.edition_command.specs.declared.status.Status.{Status}
-use Rattle.edition_command.specs.declared.status.Status.TheVariants.{Accepted, Refused, Usage, NoReport}
+use Rattle.edition_checks.specs.declared.status.Status.{Status}
+use Rattle.edition_checks.specs.declared.status.Status.TheVariants.{Accepted, Refused, Usage, NoReport}
 
 abbrev pub code_of : Status → ℕ
 code_of Accepted = 0
