@@ -36,7 +36,7 @@ impl Totals {
 pub enum Status {
     /// Every sheet is accepted.
     Accepted,
-    /// A sheet isn't accepted, a file that can't be had among them; strictly, or there is a note.
+    /// A sheet isn't accepted, a file that can't be had among them; or, strictly, there is a note.
     Refused,
     /// A mistake on the command line.
     Usage,
