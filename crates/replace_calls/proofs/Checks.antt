@@ -62,7 +62,8 @@ module _ {A B : Type 0} (first : Table → List ℕ → Got A) (os : A → List 
       both-short : got tt ≡ shortLists (binds ∷ []) → shortLists (ws ∷ binds ∷ []) ≡ got tt
       both-short l = rw (second-first ws binds, ← l) (short ws (given ws first names n i a e).0)
 
-      pub second-stops : got tt ≡ shortLists (binds ∷ []) → (k : ℕ) → refused k ≡ list_over bindingsGiven names binds → both_over names asked ws binds ≡ refused k
+      pub second-stops : got tt ≡ shortLists (binds ∷ []) → (k : ℕ) → refused k ≡ list_over bindingsGiven names binds
+          → both_over names asked ws binds ≡ refused k
       second-stops l k q =
           let f : bindingsGiven (over n) binds ≡ refused k = sym (rw (i, ← l) at q) in
           rw (i, both-short l, kept n, its, f)
@@ -77,7 +78,8 @@ module _ {A B : Type 0} (first : Table → List ℕ → Got A) (os : A → List 
               → both_over names asked ws binds ≡ (r >> make (over n) a bs)
           unfolding apart
           asked-apart r h =
-              let k : r ≡ apart (over n) (os a ++ collect opensBinding bs) = h ∙ ap₂ (λ (x y : List (Open ℕ)). need (unmixed (numbersOf (over n)) (x ++ y)) 4) o p in
+              let k : r ≡ apart (over n) (os a ++ collect opensBinding bs) =
+                  h ∙ ap₂ (λ (x y : List (Open ℕ)). need (unmixed (numbersOf (over n)) (x ++ y)) 4) o p in
               rw (i, both-short (sym (short binds (given binds bindingsGiven names n i bs g).0)), kept n, its, its-bindings, k)
 
   -- over the table that was tested it is what the call asks

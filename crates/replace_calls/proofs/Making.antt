@@ -92,7 +92,8 @@ module _ {A : Type 0} (long deep : A → ℕ) (write : A → List Rec) (lengths 
         a = c.value
 
     -- or stopped
-    pub made-stop : {r : Result (Unit {0}) Refusal} {k : Refusal} (R : Got A) (d : List ℕ) → r ≡ Err k → Leaves write w w' r R → Made (limitedTo long deep write R) d (Err k)
+    pub made-stop : {r : Result (Unit {0}) Refusal} {k : Refusal} (R : Got A) (d : List ℕ) → r ≡ Err k → Leaves write w w' r R
+        → Made (limitedTo long deep write R) d (Err k)
     made-stop {r} {k} R d i left =
         subst (λ (S : Got A). Made (limitedTo long deep write S) d (Err k)) (sym (stopped i left)) (record { answer = refl; front = λ rs e. clash e })
 
@@ -125,7 +126,8 @@ module _ (pool table : List ℕ) where
       go false b = refl
 
   pub set-made : (cs : List (Con ℕ)) (bs : List (Binding ℕ)) (w : List ℕ) (r : Result ℕ Refusal)
-      → Made (madeCons (each (replaceCon (numbers pool table) bounded (bindings (numbers pool table) bs)) cs)) w r → Made (madeSet (table_of pool table) cs bs) w r
+      → Made (madeCons (each (replaceCon (numbers pool table) bounded (bindings (numbers pool table) bs)) cs)) w r
+      → Made (madeSet (table_of pool table) cs bs) w r
   set-made cs bs w r h = subst (λ (m : Got (List Rec)). Made m w r)
       (go (each (replaceCon (numbers pool table) bounded (bindings (numbers pool table) bs)) cs)) h
     where

@@ -77,7 +77,8 @@ fn set_fits(names: NameTable, w: &[u32], n: usize) -> Result<usize, Refusal>
 fn type_into(bindings: GivenBindings, t: Type, work: &mut [u32]) -> Result<usize, Refusal>
     requires good { goodTy bindings.names.pool.now bindings.names.table.now 0 t.tree.0 ≡ true }
     requires room { 16384 ≤ length work.old }
-    ensures { Made (madeType (table_of bindings.entry.names.pool.now bindings.entry.names.table.now) t.entry.tree.0 bindings.entry.all.trees.0) work.new result }
+    ensures { Made (madeType (table_of bindings.entry.names.pool.now bindings.entry.names.table.now) t.entry.tree.0 bindings.entry.all.trees.0)
+        work.new result }
 {
     let names = bindings.names;
     let all = bindings.all;
@@ -105,7 +106,8 @@ fn type_into(bindings: GivenBindings, t: Type, work: &mut [u32]) -> Result<usize
 fn set_into(bindings: GivenBindings, set: Constraints, work: &mut [u32]) -> Result<usize, Refusal>
     requires good { all (goodCon bindings.names.pool.now bindings.names.table.now 0) set.trees.0 ≡ true }
     requires room { 16384 ≤ length work.old }
-    ensures { Made (madeSet (table_of bindings.entry.names.pool.now bindings.entry.names.table.now) set.entry.trees.0 bindings.entry.all.trees.0) work.new result }
+    ensures { Made (madeSet (table_of bindings.entry.names.pool.now bindings.entry.names.table.now) set.entry.trees.0 bindings.entry.all.trees.0)
+        work.new result }
 {
     let names = bindings.names;
     let all = bindings.all;

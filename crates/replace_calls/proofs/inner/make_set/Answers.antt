@@ -33,7 +33,9 @@ unfolding replacedSet
 returns-in_err-bindings c =
     let g = c.in_ok-given.ensures in
     let p = err_from_is_err_and c.from_residual-in_err-bindings.result c.from_residual-in_err-bindings.ensures.1 in
-    rw (p.1, p.2) (refused-made _ (second-stops setGiven (collect opensCon) madeSet _ _ c.args.names _ g.same _ g.answer c.in_ok-short.ensures _ c.in_err-bindings.ensures.answer))
+    rw (p.1, p.2)
+    (refused-made _ (second-stops setGiven (collect opensCon) madeSet _ _ c.args.names _ g.same _ g.answer c.in_ok-short.ensures _
+    c.in_err-bindings.ensures.answer))
 
 pub check_apart-requires : goal.check_apart-requires
 check_apart-requires c =
@@ -41,7 +43,8 @@ check_apart-requires c =
     let binds-word : Words32 c.args.binds.now = record { word = λ i. (c.type_inv.binds i).fits } in
     let g = c.in_ok-given.ensures.answer in
     let b = c.in_ok-bindings.ensures in
-    set-both c.in_ok-bindings.bindings.names _ _ word binds-word _ (given _ bindingsGiven c.args.names _ b.same _ b.answer).1 _ (given _ setGiven c.args.names _ b.same _ g).1
+    set-both c.in_ok-bindings.bindings.names _ _ word binds-word _
+    (given _ bindingsGiven c.args.names _ b.same _ b.answer).1 _ (given _ setGiven c.args.names _ b.same _ g).1
 
 pub returns-in_err-check_apart : goal.returns-in_err-check_apart
 unfolding replacedSet
@@ -55,7 +58,8 @@ returns-in_err-check_apart c =
     let q = bindings-opened n _ binds-word _ (given _ bindingsGiven c.args.names _ b.same _ b.answer).1 in
     let p = err_from_is_err_and c.from_residual-in_err-check_apart.result c.from_residual-in_err-check_apart.ensures.1 in
     rw (p.1, p.2)
-    (refused-made _ (asked-apart setGiven (collect opensCon) madeSet _ _ c.args.names _ b.same _ g _ b.answer _ _ o q _ (c.in_err-check_apart.ensures (names_of (table_of n.pool.now n.table.now)))))
+    (refused-made _ (asked-apart setGiven (collect opensCon) madeSet _ _ c.args.names _ b.same _ g _ b.answer _ _ o q _
+    (c.in_err-check_apart.ensures (names_of (table_of n.pool.now n.table.now)))))
 
 pub set_into-requires : goal.set_into-requires
 set_into-requires c =
@@ -73,4 +77,5 @@ returns c =
     let n = c.in_ok-bindings.bindings.names in
     let o = set-opened n _ word _ (given _ setGiven c.args.names _ b.same _ g).1 in
     let q = bindings-opened n _ binds-word _ (given _ bindingsGiven c.args.names _ b.same _ b.answer).1 in
-    as-made (asked-apart setGiven (collect opensCon) madeSet _ _ c.args.names _ b.same _ g _ b.answer _ _ o q _ (c.in_ok-check_apart.ensures (names_of (table_of n.pool.now n.table.now)))) c.set_into.ensures
+    as-made (asked-apart setGiven (collect opensCon) madeSet _ _ c.args.names _ b.same _ g _ b.answer _ _ o q _
+    (c.in_ok-check_apart.ensures (names_of (table_of n.pool.now n.table.now)))) c.set_into.ensures

@@ -32,7 +32,8 @@ unfolding replacedType
 returns-in_err-bindings c =
     let g = c.in_ok-given.ensures in
     let p = err_from_is_err_and c.from_residual-in_err-bindings.result c.from_residual-in_err-bindings.ensures.1 in
-    rw (p.1, p.2) (refused-made _ (second-stops typeGiven opens madeType _ _ c.args.names _ g.same _ g.answer c.in_ok-short.ensures _ c.in_err-bindings.ensures.answer))
+    rw (p.1, p.2)
+    (refused-made _ (second-stops typeGiven opens madeType _ _ c.args.names _ g.same _ g.answer c.in_ok-short.ensures _ c.in_err-bindings.ensures.answer))
 
 pub check_apart-requires : goal.check_apart-requires
 check_apart-requires c =
@@ -40,7 +41,8 @@ check_apart-requires c =
     let binds-word : Words32 c.args.binds.now = record { word = λ i. (c.type_inv.binds i).fits } in
     let g = c.in_ok-given.ensures.answer in
     let b = c.in_ok-bindings.ensures in
-    type-both c.in_ok-bindings.bindings.names _ _ word binds-word _ (given _ bindingsGiven c.args.names _ b.same _ b.answer).1 _ (given _ typeGiven c.args.names _ b.same _ g).1
+    type-both c.in_ok-bindings.bindings.names _ _ word binds-word _
+    (given _ bindingsGiven c.args.names _ b.same _ b.answer).1 _ (given _ typeGiven c.args.names _ b.same _ g).1
 
 pub returns-in_err-check_apart : goal.returns-in_err-check_apart
 unfolding replacedType
@@ -54,7 +56,8 @@ returns-in_err-check_apart c =
     let q = bindings-opened n _ binds-word _ (given _ bindingsGiven c.args.names _ b.same _ b.answer).1 in
     let p = err_from_is_err_and c.from_residual-in_err-check_apart.result c.from_residual-in_err-check_apart.ensures.1 in
     rw (p.1, p.2)
-    (refused-made _ (asked-apart typeGiven opens madeType _ _ c.args.names _ b.same _ g _ b.answer _ _ o q _ (c.in_err-check_apart.ensures (names_of (table_of n.pool.now n.table.now)))))
+    (refused-made _ (asked-apart typeGiven opens madeType _ _ c.args.names _ b.same _ g _ b.answer _ _ o q _
+    (c.in_err-check_apart.ensures (names_of (table_of n.pool.now n.table.now)))))
 
 pub type_into-requires : goal.type_into-requires
 type_into-requires c =
@@ -72,4 +75,5 @@ returns c =
     let n = c.in_ok-bindings.bindings.names in
     let o = type-opened n _ word _ (given _ typeGiven c.args.names _ b.same _ g).1 in
     let q = bindings-opened n _ binds-word _ (given _ bindingsGiven c.args.names _ b.same _ b.answer).1 in
-    as-made (asked-apart typeGiven opens madeType _ _ c.args.names _ b.same _ g _ b.answer _ _ o q _ (c.in_ok-check_apart.ensures (names_of (table_of n.pool.now n.table.now)))) c.type_into.ensures
+    as-made (asked-apart typeGiven opens madeType _ _ c.args.names _ b.same _ g _ b.answer _ _ o q _
+    (c.in_ok-check_apart.ensures (names_of (table_of n.pool.now n.table.now)))) c.type_into.ensures
