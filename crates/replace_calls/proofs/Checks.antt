@@ -79,7 +79,7 @@ module _ {A B : Type 0} (first : Table → List ℕ → Got A) (os : A → List 
           unfolding apart
           asked-apart r h =
               let k : r ≡ apart (over n) (os a ++ collect opensBinding bs) =
-                  h ∙ ap₂ (λ (x y : List (Open ℕ)). need (unmixed (numbersOf (over n)) (x ++ y)) 4) o p in
+              h ∙ ap₂ (λ (x y : List (Open ℕ)). need (unmixed (numbersOf (over n)) (x ++ y)) 4) o p in
               rw (i, both-short (sym (short binds (given binds bindingsGiven names n i bs g).0)), kept n, its, its-bindings, k)
 
   -- over the table that was tested it is what the call asks

@@ -1,12 +1,12 @@
 -- A row of checks: lists that are short, the table, a first list, bounds, handed numbers, and what is asked of the first; and then what is made.
-use Rattle.std.specs.Prelude.{◌≡◌, true, ◌&&◌, List, [], ◌∷◌, ℕ, ◌≤◌, ◌<◌, leb, length}
-use Rattle.std.proofs.Common.{sym, ◌∙◌, le-leb}
+use Rattle.std.specs.Prelude.{◌≡◌, refl, Bool, true, false, ◌&&◌, List, [], ◌∷◌, ℕ, ◌≤◌, ◌<◌, leb, length}
+use Rattle.std.proofs.Common.{sym, ap, ◌∙◌, le-leb}
 use Rattle.std.proofs.lemmas.Bool.{lt-leb}
 use borrow.Author.Tests.{leb-true}
-use Rattle.rules.specs.Base.{Got, got, refused, ◌>>=◌, ◌>>◌, all}
+use Rattle.rules.specs.Base.{Got, got, refused, ◌>>=◌, ◌>>◌, need, all}
 use Rattle.rules.specs.Calls.{shortLists, shortNumbers}
 use Rattle.laws.specs.Checks.{need-passed, first-passed, next-passed}
-use Rattle.laws.specs.Lists.{and_left, and_right}
+use Rattle.laws.specs.Lists.{and_left}
 use Rattle.schemes.specs.Entry.{short}
 
 -- all of a call
@@ -35,47 +35,54 @@ module _ {A B C : Type 0} {f : A → Got (Unit {0})} {g : A → B → Got C} {s 
 
 -- ══ Lists that are short ══
 
+-- two lists, where each is
+two-short : (a b : Bool) → need (a && (b && true)) 8 ≡ (need (a && true) 8 >> need (b && true) 8)
+two-short true true = refl
+two-short true false = refl
+two-short false b = refl
+
 module _ (ws bounds numbers : List ℕ) where
-  pub words-long : 8192 < length ws → refused 8 ≡ short ws bounds numbers
+  each-short : short ws bounds numbers ≡ ((shortLists (ws ∷ []) >> shortLists (bounds ∷ [])) >> shortNumbers numbers)
   unfolding shortLists all
-  words-long h = sym (rw (lt-leb (length ws) 8192 h))
+  each-short = ap (λ (l : Got (Unit {0})). l >> shortNumbers numbers) (two-short (leb (length ws) 8192) (leb (length bounds) 8192))
 
-  pub bounds-long : length ws ≤ 8192 → 8192 < length bounds → refused 8 ≡ short ws bounds numbers
-  unfolding shortLists all
-  bounds-long w h = sym (rw (le-leb (length ws) 8192 w, lt-leb (length bounds) 8192 h))
+  pub words-long : {k : ℕ} → refused k ≡ shortLists (ws ∷ []) → refused k ≡ short ws bounds numbers
+  words-long h = sym (rw (each-short, ← h))
 
-  pub numbers-long : length ws ≤ 8192 → length bounds ≤ 8192 → 2048 < length numbers → refused 8 ≡ short ws bounds numbers
-  unfolding shortLists shortNumbers all
-  numbers-long w b h = sym (rw (le-leb (length ws) 8192 w, le-leb (length bounds) 8192 b, lt-leb (length numbers) 2048 h))
+  module _ (w : got tt ≡ shortLists (ws ∷ [])) where
+    pub bounds-long : {k : ℕ} → refused k ≡ shortLists (bounds ∷ []) → refused k ≡ short ws bounds numbers
+    bounds-long h = sym (rw (each-short, ← w, ← h))
 
-  pub all_short : length ws ≤ 8192 → length bounds ≤ 8192 → length numbers ≤ 2048 → got tt ≡ short ws bounds numbers
-  unfolding shortLists shortNumbers all
-  all_short w b h = sym (rw (le-leb (length ws) 8192 w, le-leb (length bounds) 8192 b, le-leb (length numbers) 2048 h))
+    module _ (b : got tt ≡ shortLists (bounds ∷ [])) where
+      pub numbers-long : 2048 < length numbers → refused 8 ≡ short ws bounds numbers
+      unfolding shortNumbers
+      numbers-long h = sym (rw (each-short, ← w, ← b, lt-leb (length numbers) 2048 h))
+
+      pub all_short : length numbers ≤ 2048 → got tt ≡ short ws bounds numbers
+      unfolding shortNumbers
+      all_short h = sym (rw (each-short, ← w, ← b, le-leb (length numbers) 2048 h))
 
   module _ (e : got tt ≡ short ws bounds numbers) where
-    both : leb (length ws) 8192 && (leb (length bounds) 8192 && true) ≡ true
-    unfolding shortLists all
-    both = need-passed _ 8 (first-passed (shortNumbers numbers) tt (shortLists (ws ∷ bounds ∷ [])) (sym e))
+    both : (shortLists (ws ∷ []) >> shortLists (bounds ∷ [])) ≡ got tt
+    both = first-passed (shortNumbers numbers) tt (shortLists (ws ∷ []) >> shortLists (bounds ∷ [])) (sym (e ∙ each-short))
+
+    words-alone : shortLists (ws ∷ []) ≡ got tt
+    words-alone = first-passed (shortLists (bounds ∷ [])) tt (shortLists (ws ∷ [])) both
 
     pub words-short : length ws ≤ 8192
-    words-short = leb-true (length ws) 8192 (and_left (leb (length ws) 8192) (leb (length bounds) 8192 && true) both)
-
-    bounds-short : length bounds ≤ 8192
-    bounds-short = leb-true (length bounds) 8192
-        (and_left (leb (length bounds) 8192) true (and_right (leb (length ws) 8192) (leb (length bounds) 8192 && true) both))
+    unfolding shortLists all
+    words-short = leb-true (length ws) 8192 (and_left (leb (length ws) 8192) true (need-passed (leb (length ws) 8192 && true) 8 words-alone))
 
     numbers-few : shortNumbers numbers ≡ got tt
-    numbers-few = next-passed (shortNumbers numbers) tt (shortLists (ws ∷ bounds ∷ [])) (sym e)
+    numbers-few = next-passed (shortNumbers numbers) tt (shortLists (ws ∷ []) >> shortLists (bounds ∷ [])) (sym (e ∙ each-short))
 
     -- so a list by itself is what it holds
     module _ {A : Type 0} (m : Got A) where
       pub first-alone : {r : Got A} → r ≡ (shortLists (ws ∷ []) >> m) → m ≡ r
-      unfolding shortLists all
-      first-alone i = sym (i ∙ rw (le-leb (length ws) 8192 words-short))
+      first-alone i = sym (i ∙ rw words-alone)
 
       pub bounds-alone : {r : Got A} → r ≡ (shortLists (bounds ∷ []) >> m) → m ≡ r
-      unfolding shortLists all
-      bounds-alone i = sym (i ∙ rw (le-leb (length bounds) 8192 bounds-short))
+      bounds-alone i = sym (i ∙ rw (next-passed (shortLists (bounds ∷ [])) tt (shortLists (ws ∷ [])) both))
 
       pub numbers-alone : {r : Got A} → r ≡ (shortNumbers numbers >> m) → m ≡ r
       numbers-alone i = sym (i ∙ rw numbers-few)

@@ -1,11 +1,10 @@
 -- Numbers that the name table holds, one after another.
-use Rattle.std.specs.Prelude.{◌≡◌, refl, Bool, true, false, not, ◌&&◌, List, [], ◌∷◌, ℕ, zero, suc, ◌+◌, ◌≤◌, ◌<◌, leb, ltb, length, get_or, drop}
+use Rattle.std.specs.Prelude.{◌≡◌, refl, Bool, true, false, not, ◌&&◌, List, [], ◌∷◌, ℕ, zero, suc, ◌+◌, ◌≤◌, ◌<◌, ltb, length, get_or, drop}
 use Rattle.std.proofs.Common.{sym, ap, ◌∙◌, arith, le-leb, drop-cons, drop_of_length-le, ltb-true}
 use Rattle.std.proofs.lemmas.Bool.{lt-leb}
 use Rattle.rules.specs.Base.{Got, got, refused, ◌>>◌, need, all}
 use Rattle.rules.specs.Calls.{shortNumbers, numbersGiven}
 use Rattle.rules.specs.Names.{table_of, is_held}
-use mathlib.Core.List.Memᴰ
 use mathlib.Core.List.{Memᴰ}
 use Rattle.laws.specs.Lists.{All, all-is, in_head, not-true, not-false}
 use Rattle.laws.specs.NameTable.{Good, good-laid, held-is}

@@ -1,26 +1,23 @@
 -- Bounds with their names renamed: those that aren't renamed stay, or are left out.
-use Rattle.std.specs.Prelude.{◌≡◌, Bool, true, false, ℕ, ◌+◌, ◌*◌, ◌/◌, ◌≤◌, ◌<◌, length}
+use Rattle.std.specs.Prelude.{◌≡◌, Bool, true, false, ℕ, ◌+◌, ◌/◌, ◌≤◌, ◌<◌, length}
 use Rattle.std.proofs.Math.Path.{refl, sym, ap}
 use Rattle.std.proofs.Common.{subst, ap₂, ◌∙◌, arith}
 use mathlib.Core.HLevel.{Σ_prop_path}
-use mathlib.Core.List.{List, [], ◌∷◌, ◌++◌, map}
+use mathlib.Core.List.{List, [], ◌∷◌, map}
 use Rattle.std.proofs.Math.Option.{Option, none, some}
 use Rattle.std.proofs.lemmas.List.{map-append}
-use Rattle.std.proofs.lemmas.List.Edits.{sets}
 use Rattle.rules.specs.Base.{and_then, collect}
 use Rattle.rules.specs.Schemes.{renamed}
 use Rattle.rules.specs.Trees as tree
 use Rattle.rules.specs.Trees.{Ty, opened}
-use Rattle.rules.specs.Writing.{Rec, words, writeBound}
+use Rattle.rules.specs.Writing.{Rec, writeBound}
 use Rattle.laws.specs.Lists.{some≢none}
-use Rattle.records.specs.Holds.{Holds, Shows, viewOpen, openOf}
+use Rattle.records.specs.Holds.{Shows, viewOpen, openOf}
 use Rattle.records.specs.Views.{viewAt, recOf}
 use Rattle.records.specs.declared.Open.{Open}
 use Rattle.records.specs.declared.Open.TheVariants.{Var, Quant, Par}
 use Rattle.records.specs.declared.View.TheVariants as view
-use Rattle.records.specs.Buffers.{words-length}
 use Rattle.records.specs.Places.{seen-in}
-use Rattle.records.specs.Stores.{sets-append}
 use Rattle.records.specs.Cut.{fit, fits}
 use Rattle.types.specs.declared.Shape.{Shape}
 use Rattle.types.specs.declared.Shape.TheVariants as shape

@@ -1,13 +1,12 @@
 -- What instantiating is given, and what it makes.
-use Rattle.std.specs.Prelude.{◌≡◌, refl, true, List, ◌++◌, map, ℕ, ◌+◌, ◌*◌, ◌≤◌, ◌<◌, eqb, length, get_or, replicate, Ok, Err, Result}
-use Rattle.std.proofs.Common.{sym, ap, subst, ◌∙◌, arith, eq-eqb, ne_eqb, length-append}
+use Rattle.std.specs.Prelude.{◌≡◌, refl, true, List, ◌++◌, map, ℕ, ◌+◌, ◌*◌, ◌≤◌, eqb, length, get_or, replicate, Ok, Err, Result}
+use Rattle.std.proofs.Common.{ap, subst, ◌∙◌, arith, eq-eqb, ne_eqb, length-append}
 use Rattle.std.proofs.lemmas.List.{length-map}
 use Rattle.std.proofs.lemmas.List.Edits.{sets}
 use Rattle.std.proofs.Math.Seq.{length-sets}
 use Rattle.rules.specs.Base.{Got, got, refused, ◌>>=◌, ◌>>◌, need, bounded}
 use Rattle.rules.specs.Names.{table_of, is_held}
 use Rattle.rules.specs.Replacing.{replaceTy}
-use Rattle.rules.specs.Refusals.{number_of}
 use Rattle.rules.specs.Schemes.{Scheme, concrete, scheme, renamed, back}
 use Rattle.rules.specs.Trees.{Ty, Open, size}
 use Rattle.rules.specs.Writing.{Rec, words, writeTy, writeBound}

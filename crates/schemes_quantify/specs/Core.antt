@@ -1,8 +1,8 @@
 -- A scheme that was written from the start of the work buffer is what quantifying makes, or it is too long.
-use Rattle.std.specs.Prelude.{Ok, Err, ◌≡◌, refl, take, drop, min}
+use Rattle.std.specs.Prelude.{Ok, Err, ◌≡◌, take, drop, min}
 use Rattle.std.proofs.Common.{sym, subst, ◌∙◌, take_at}
 use Rattle.std.proofs.Math.Path.{ap}
-use mathlib.Core.List.{List, [], ◌∷◌, ◌++◌, map}
+use mathlib.Core.List.{List, ◌∷◌, ◌++◌, map}
 use Prim.Native.Nat.{ℕ, suc, ◌+◌, ◌*◌, ◌≤◌, ◌<◌}
 use native.Mathlib.Omega.{arith}
 use Rattle.std.proofs.Math.ListN.{length, length-append, length-map}
@@ -12,7 +12,7 @@ use Rattle.rules.specs.Base.{Got, got, refused, ◌>>=◌, bounded}
 use Rattle.rules.specs.Refusals.{number_of}
 use Rattle.rules.specs.Schemes.{scheme, schemeLimited}
 use Rattle.rules.specs.Trees.{Open, Ty, size, depth}
-use Rattle.rules.specs.Writing.{Rec, rec, head, words, writeTy, writeBound, writeScheme}
+use Rattle.rules.specs.Writing.{Rec, words, writeTy, writeBound, writeScheme}
 use Rattle.rules.specs.declared.Refusal.{Refusal}
 use Rattle.rules.specs.declared.Refusal.TheVariants.{TooLarge}
 use Rattle.laws.specs.Lists.{clash}

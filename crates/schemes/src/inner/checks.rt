@@ -9,18 +9,15 @@ ghost use Rattle.queries.specs.Scans.{opensIn};
 ghost use Rattle.schemes.specs.Entry.{short};
 
 use queries::inner::is_unmixed;
-use rules::{RECORD_WORDS, RECORDS, Refusal};
+use rules::{RECORDS, Refusal};
+use types::given;
 
 /// Two lists of at most 2,048 records, and at most 2,048 handed numbers (8).
 pub fn check_lengths(words: &[u32], bounds: &[u32], numbers: &[u32]) -> Result<(), Refusal>
     ensures { told result ≡ short words.now bounds.now numbers.now }
 {
-    if RECORD_WORDS < words.len() {
-        return Err(Refusal::TooLarge);
-    }
-    if RECORD_WORDS < bounds.len() {
-        return Err(Refusal::TooLarge);
-    }
+    given::short(words)?;
+    given::short(bounds)?;
     if RECORDS < numbers.len() {
         return Err(Refusal::TooLarge);
     }

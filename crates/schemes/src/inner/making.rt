@@ -7,9 +7,9 @@ ghost use Rattle.schemes.specs.Entry.{short, called_over};
 use super::checks::{check_lengths, check_unmixed};
 use names::tables::NameTable;
 use rules::Refusal;
-use schemes_handed::inner::given::given_type;
 use schemes_handed::{Bounds, Handed};
 use schemes_quantify::inner::quantifying::quantify_at;
+use types::GivenType;
 
 /// A type and bounds with handed names quantified.
 pub fn make_quantified(
@@ -24,9 +24,9 @@ pub fn make_quantified(
 {
     check_lengths(words, bounds, numbers)?;
     let names = names?;
-    let t = given_type(names, words)?;
+    let given = GivenType::new(Ok(names), words)?;
     let bounds = Bounds::new(names, bounds)?;
     let handed = Handed::new(names, numbers)?;
     check_unmixed(words)?;
-    quantify_at(handed, t, bounds, true, work)
+    quantify_at(handed, given.whole, bounds, true, work)
 }

@@ -1,54 +1,24 @@
 //! Lists that passed their test over a name table, as values: each is looked at once, and whoever holds one needn't ask again.
 ghost use Rattle.std.specs.Prelude.{◌≡◌, IfOk};
-ghost use Rattle.rules.specs.Refusals.{told, toldBy};
-ghost use Rattle.types.specs.Shapes.{tree_of};
-ghost use Rattle.schemes_handed.specs.Given.{tested, type_over, bounds_in, bounds_over, scheme_in, scheme_over, nothing_in, numbers_over};
+ghost use Rattle.rules.specs.Refusals.{toldBy};
+ghost use Rattle.schemes_handed.specs.Given.{bounds_in, bounds_over, scheme_in, scheme_over, nothing_in, numbers_over};
 
 use super::super::{Bounds, Handed, Scheme};
 use names::tables::NameTable;
 use records::View;
 use records::inner::bounds_good;
-use records::reader::{Reader, scheme_good};
+use records::reader::scheme_good;
 use records::seen::view_at;
-use rules::{RECORD_WORDS, RECORDS, Refusal};
+use rules::{RECORDS, Refusal};
 use types::Type;
-
-// At most 2,048 records (8), whole ones, that passed their test (1).
-fn passed(words: &[u32], good: bool) -> Result<(), Refusal>
-    ensures { told result ≡ tested words.now good }
-{
-    if RECORD_WORDS < words.len() {
-        return Err(Refusal::TooLarge);
-    }
-    if words.len() % 4 != 0 {
-        return Err(Refusal::Malformed);
-    }
-    if good {
-        Ok(())
-    } else {
-        Err(Refusal::Malformed)
-    }
-}
-
-/// The type that a list holds. Refused: 8 where the list is over 2,048 records long, and 1 where it is not one well formed type without quantified
-/// variables.
-pub fn given_type<'a>(names: NameTable<'a>, words: &'a [u32]) -> Result<Type<'a>, Refusal>
-    ensures { toldBy tree_of result ≡ type_over names.entry words.now }
-{
-    let reader = Reader {
-        names,
-        quantified: 0,
-        words,
-    };
-    passed(words, reader.is_type(0))?;
-    Ok(Type { words, at: 0 })
-}
+use types::given::{passed, short};
 
 impl<'a> Bounds<'a> {
     /// The bounds that a list holds. Refused: 8 where the list is over 2,048 records long, and 1 where it holds anything but bounds with held names.
     pub fn new(names: NameTable<'a>, words: &'a [u32]) -> Result<Bounds<'a>, Refusal>
         ensures { toldBy bounds_in result ≡ bounds_over names.entry words.now }
     {
+        short(words)?;
         passed(words, bounds_good(names, 0, words, 0))?;
         Ok(Bounds { words, at: 0 })
     }
@@ -59,6 +29,7 @@ impl<'a> Scheme<'a> {
     pub fn new(names: NameTable<'a>, words: &'a [u32]) -> Result<Scheme<'a>, Refusal>
         ensures { toldBy scheme_in result ≡ scheme_over names.entry words.now }
     {
+        short(words)?;
         passed(words, scheme_good(names, words))?;
         match view_at(words, 0) {
             View::Concrete => Ok(Scheme::Concrete(Type { words, at: 1 })),

@@ -43,7 +43,7 @@ fn put_back(handed: Handed, t: Type, bounds: Bounds, work: &mut [u32]) -> Result
     };
     replace_type(back, t, &mut first)?;
     let read = Type {
-        words: &between,
+        words: first.words,
         at: 0,
     };
     let mut out = Writer { words: work, at: 0 };

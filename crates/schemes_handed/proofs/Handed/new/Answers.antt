@@ -1,4 +1,4 @@
-use Rattle.std.proofs.Common.{refl, ap}
+use Rattle.std.proofs.Common.{ap}
 use Rattle.std.specs.Prelude.{not}
 use Rattle.schemes_handed.proofs.Numbers.{too_many, one-unheld, one_held, numbers-held, asked-held}
 use Rattle.schemes_handed.proofs.Handed.new.Goals as goal

@@ -1,9 +1,8 @@
-use Rattle.std.proofs.Common.{◌≡◌, List, ℕ, arith, sym, subst, refl, rules}
+use Rattle.std.proofs.Common.{◌≡◌, ℕ, arith, sym, subst, refl, rules}
 use Rattle.std.proofs.lemmas.Result.{err_from_is_err_and}
 use lib.ListN.{length-replicate}
 use Rattle.rules.specs.Names.{table_of, is_held}
 use Rattle.rules.specs.Schemes.{renamed, back}
-use Rattle.rules.specs.Trees.{Ty}
 use Rattle.schemes_renaming.proofs.Own.{own}
 use Rattle.records.specs.Parsed.{only}
 use Rattle.replace.specs.Substitutions.{same-look}
@@ -37,7 +36,7 @@ returns-in_err-replace_type c =
     let k = err_from_is_err_and c.from_residual.result c.from_residual.ensures.1 in
     rw (k.1, k.2)
     (first-stopped h c.args.t.tree.0 c.args.bounds.listed.0 y _
-    (type-as n.pool.now n.table.now p v c.replace_type-arg-1.given.0 (renamed (back h.numbers.now), l) refl (told c.in_err-replace_type.was c.replace_type.ensures)))
+    (type-as n.pool.now n.table.now p v (_, search) (renamed (back h.numbers.now), l) refl (told c.in_err-replace_type.was c.replace_type.ensures)))
 
 pub invariant_of-read : goal.invariant_of-read
 invariant_of-read c =
@@ -47,13 +46,12 @@ invariant_of-read c =
     let p = c.put_names_back.new.places in
     let v = c.keep_names.new.v in
     let l = back-tables h _ _ c.put_names_back.ensures c.keep_names.ensures.1 in
-    let once = came (type-as n.pool.now n.table.now p v c.replace_type-arg-1.given.0 (renamed (back h.numbers.now), l) refl
+    let once = came (type-as n.pool.now n.table.now p v (_, search) (renamed (back h.numbers.now), l) refl
     (told c.in_ok-replace_type.was c.replace_type.ensures)) in
     let held = first-held h c.args.t.tree.0 c.args.bounds.listed.0 y once refl (omega (arith, length-replicate {A = ℕ} 8192 0)) in
-    let between : c.between-2-1.given.0 ≡ c.replace_type.new.out.words.now = search rules in
     record {
-      near = rw between (read-near h c.args.t.tree.0 c.args.bounds.listed.0 y once refl (omega (arith, length-replicate {A = ℕ} 8192 0)));
-      tree = (once.value, rw between held.held);
+      near = read-near h c.args.t.tree.0 c.args.bounds.listed.0 y once refl (omega (arith, length-replicate {A = ℕ} 8192 0));
+      tree = (once.value, held.held);
     }
 
 pub replace_type-requires-2 : goal.replace_type-requires-2
@@ -64,13 +62,10 @@ replace_type-requires-2 c =
     let p = c.put_names_back.new.places in
     let v = c.keep_names.new.v in
     let l = back-tables h _ _ c.put_names_back.ensures c.keep_names.ensures.1 in
-    let once = came (type-as n.pool.now n.table.now p v c.replace_type-arg-1.given.0 (renamed (back h.numbers.now), l) refl
+    let once = came (type-as n.pool.now n.table.now p v (_, search) (renamed (back h.numbers.now), l) refl
     (told c.in_ok-replace_type.was c.replace_type.ensures)) in
     let held = first-held h c.args.t.tree.0 c.args.bounds.listed.0 y once refl (omega (arith, length-replicate {A = ℕ} 8192 0)) in
-    let between : c.between-2-1.given.0 ≡ c.replace_type.new.out.words.now = search rules in
-    let u = c.replace_type-arg-3-1.given.1.0 in
-    let one = only c.between-2-1.given.0 u.0 once.value 0 u.1 (rw between held.held) in
-    subst (GoodTy n.pool.now n.table.now) (sym one) held.good
+    subst (GoodTy n.pool.now n.table.now) (sym (only _ _ once.value 0 (search) held.held)) held.good
 
 pub returns-in_err-replace_type-2 : goal.returns-in_err-replace_type-2
 returns-in_err-replace_type-2 c =
@@ -81,14 +76,11 @@ returns-in_err-replace_type-2 c =
     let v = c.keep_names.new.v in
     let l = back-tables h _ _ c.put_names_back.ensures c.keep_names.ensures.1 in
     let o = own-tables h _ _ c.keep_names.ensures.0 c.keep_names.ensures.1 in
-    let once = came (type-as n.pool.now n.table.now p v c.replace_type-arg-1.given.0 (renamed (back h.numbers.now), l) refl
+    let once = came (type-as n.pool.now n.table.now p v (_, search) (renamed (back h.numbers.now), l) refl
     (told c.in_ok-replace_type.was c.replace_type.ensures)) in
     let held = first-held h c.args.t.tree.0 c.args.bounds.listed.0 y once refl (omega (arith, length-replicate {A = ℕ} 8192 0)) in
-    let between : c.between-2-1.given.0 ≡ c.replace_type.new.out.words.now = search rules in
-    let u = c.replace_type-arg-3-1.given.1.0 in
-    let one = only c.between-2-1.given.0 u.0 once.value 0 u.1 (rw between held.held) in
-    let again = type-as n.pool.now n.table.now c.keep_names.new.places v c.replace_type-arg-2-1.given.0
-    (renamed (own (is_held (table_of n.pool.now n.table.now))), o) one
+    let again = type-as n.pool.now n.table.now c.keep_names.new.places v (_, search)
+    (renamed (own (is_held (table_of n.pool.now n.table.now))), o) (only _ _ once.value 0 (search) held.held)
     (told c.in_err-replace_type-2.was c.replace_type-2.ensures) in
     let k = err_from_is_err_and c.from_residual-in_err-replace_type-2.result c.from_residual-in_err-replace_type-2.ensures.1 in
     rw (k.1, k.2) (second-stopped h c.args.t.tree.0 c.args.bounds.listed.0 y once _ again)
@@ -100,7 +92,7 @@ put_bounds-requires c =
     let p = c.put_names_back.new.places in
     let v = c.keep_names.new.v in
     let l = back-tables h _ _ c.put_names_back.ensures c.keep_names.ensures.1 in
-    (back h.numbers.now, same-look n.pool.now n.table.now p v c.put_bounds-arg-1.given.0 (renamed (back h.numbers.now), l))
+    (back h.numbers.now, same-look n.pool.now n.table.now p v (_, search) (renamed (back h.numbers.now), l))
 
 pub returns : goal.returns
 returns c =
@@ -111,16 +103,13 @@ returns c =
     let v = c.keep_names.new.v in
     let l = back-tables h _ _ c.put_names_back.ensures c.keep_names.ensures.1 in
     let o = own-tables h _ _ c.keep_names.ensures.0 c.keep_names.ensures.1 in
-    let once = came (type-as n.pool.now n.table.now p v c.replace_type-arg-1.given.0 (renamed (back h.numbers.now), l) refl
+    let once = came (type-as n.pool.now n.table.now p v (_, search) (renamed (back h.numbers.now), l) refl
     (told c.in_ok-replace_type.was c.replace_type.ensures)) in
     let held = first-held h c.args.t.tree.0 c.args.bounds.listed.0 y once refl (omega (arith, length-replicate {A = ℕ} 8192 0)) in
-    let between : c.between-2-1.given.0 ≡ c.replace_type.new.out.words.now = search rules in
-    let u = c.replace_type-arg-3-1.given.1.0 in
-    let one = only c.between-2-1.given.0 u.0 once.value 0 u.1 (rw between held.held) in
-    let again = type-as n.pool.now n.table.now c.keep_names.new.places v c.replace_type-arg-2-1.given.0
-    (renamed (own (is_held (table_of n.pool.now n.table.now))), o) one
+    let again = type-as n.pool.now n.table.now c.keep_names.new.places v (_, search)
+    (renamed (own (is_held (table_of n.pool.now n.table.now))), o) (only _ _ once.value 0 (search) held.held)
     (told c.in_ok-replace_type-2.was c.replace_type-2.ensures) in
-    let b = c.put_bounds.ensures (back h.numbers.now) (same-look n.pool.now n.table.now p v c.put_bounds-arg-1.given.0 (renamed (back h.numbers.now), l)) in
+    let b = c.put_bounds.ensures (back h.numbers.now) (same-look n.pool.now n.table.now p v (_, search) (renamed (back h.numbers.now), l)) in
     let same = b.same in
     let work : c.work-2-1.given.0 ≡ c.put_bounds.new.out.words.now = search (rules, same) in
     rw work (all_made h c.args.t.tree.0 c.args.bounds.listed.0 y once refl c.requires.work_room (came again) b)

@@ -1,4 +1,4 @@
-use Rattle.std.proofs.Common.{◌≡◌, List, ℕ, refl, rules}
+use Rattle.std.proofs.Common.{◌≡◌, refl, rules}
 use Rattle.std.proofs.lemmas.Result.{err_from_is_err_and}
 use Rattle.rules.specs.Schemes.{renamed}
 use Rattle.replace.specs.Substitutions.{same-look}
@@ -20,7 +20,7 @@ put_bounds-requires c =
     let h = c.args.handed in
     let q = c.quantify_names in
     let l = tables h q.new.places q.new.v q.ensures.0 q.ensures.1 in
-    (renaming h, same-look h.names.pool.now h.names.table.now q.new.places q.new.v c.put_bounds-arg-1.given.0 (renamed (renaming h), l))
+    (renaming h, same-look h.names.pool.now h.names.table.now q.new.places q.new.v (_, search) (renamed (renaming h), l))
 
 pub returns-in_err-replace_type : goal.returns-in_err-replace_type
 returns-in_err-replace_type c =
@@ -30,7 +30,7 @@ returns-in_err-replace_type c =
     let k = err_from_is_err_and c.from_residual.result c.from_residual.ensures.1 in
     rw (k.1, k.2)
     (type-stopped h c.args.all c.args.t.tree.0 c.args.bounds.listed.0 _
-    (type-as h.names.pool.now h.names.table.now q.new.places q.new.v c.replace_type-arg-1.given.0 (renamed (renaming h), l) refl
+    (type-as h.names.pool.now h.names.table.now q.new.places q.new.v (_, search) (renamed (renaming h), l) refl
     (told c.in_err-replace_type.was c.replace_type.ensures)))
 
 pub returns-then-out-gt-RECORDS : goal.returns-then-out-gt-RECORDS
@@ -39,10 +39,10 @@ returns-then-out-gt-RECORDS c =
     let q = c.quantify_names in
     let l = tables h q.new.places q.new.v q.ensures.0 q.ensures.1 in
     all-long h c.args.all c.args.t.tree.0 c.args.bounds.listed.0 c.requires.sound.flat _ refl c.reserve-start.ensures
-    (type-as h.names.pool.now h.names.table.now q.new.places q.new.v c.replace_type-arg-1.given.0 (renamed (renaming h), l) refl
+    (type-as h.names.pool.now h.names.table.now q.new.places q.new.v (_, search) (renamed (renaming h), l) refl
     (told c.in_ok-replace_type.was c.replace_type.ensures))
     (c.put_bounds.ensures (renaming h)
-    (same-look h.names.pool.now h.names.table.now q.new.places q.new.v c.put_bounds-arg-1.given.0 (renamed (renaming h), l)))
+    (same-look h.names.pool.now h.names.table.now q.new.places q.new.v (_, search) (renamed (renaming h), l)))
     c.if-out-gt-RECORDS.true
 
 pub returns : goal.returns
@@ -51,11 +51,11 @@ returns c =
     let q = c.quantify_names in
     let l = tables h q.new.places q.new.v q.ensures.0 q.ensures.1 in
     let p = c.put_bounds.ensures (renaming h)
-    (same-look h.names.pool.now h.names.table.now q.new.places q.new.v c.put_bounds-arg-1.given.0 (renamed (renaming h), l)) in
+    (same-look h.names.pool.now h.names.table.now q.new.places q.new.v (_, search) (renamed (renaming h), l)) in
     let same = p.same in
     let back : c.work-2-1.given.0 ≡ c.begin.new.self.words.now = search (rules, same) in
     rw (back, c.begin.ensures.at)
     (all_made h c.args.all c.args.t.tree.0 c.args.bounds.listed.0 c.requires.sound.flat refl c.requires.work_room c.reserve-start.ensures
-    (type-as h.names.pool.now h.names.table.now q.new.places q.new.v c.replace_type-arg-1.given.0 (renamed (renaming h), l) refl
+    (type-as h.names.pool.now h.names.table.now q.new.places q.new.v (_, search) (renamed (renaming h), l) refl
     (told c.in_ok-replace_type.was c.replace_type.ensures))
     p c.if-out-gt-RECORDS.false c.begin.ensures)
