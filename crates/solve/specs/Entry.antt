@@ -37,6 +37,7 @@ use Rattle.queries.specs.Runs.{set-small, set-opens}
 use Rattle.queries.specs.Scans.{opensIn}
 use Rattle.replace.specs.Given.{given-cons}
 use Rattle.types.proofs.GivenSets.{Given, given-in}
+use Rattle.types.proofs.Tested.{kept, as-refused}
 use Rattle.types.specs.Given.{over_table, call_over, constraints_in}
 use Rattle.types.specs.declared.GivenSet.{GivenSet}
 use Rattle.solve.specs.declared.Solution.{Solution}
@@ -80,10 +81,6 @@ long-table pool table l =
     let b = (and-eq-true_iff (leb 8192 (length pool)) (leb 257 (length table))).0 (need-passed (leb 8192 (length pool) && leb 257 (length table)) 10 l) in
     (leb-true 8192 (length pool) b.0, leb-true 257 (length table) b.1)
 
-as-refused : {A B : Type 0} (l : Got (Unit {0})) (n k : ℕ) → ◌≡◌ {A = Got A} (refused n) (l >> refused k) → ◌≡◌ {A = Got B} (l >> refused k) (refused n)
-as-refused (refused i) n k e = cc
-as-refused (got x) n k e = cc
-
 -- what is made of a set whose names are apart: the calls that solve
 module _ {A : Type 0} (g : Table → List (Con ℕ) → Got A) where
   abbrev made_past : Table → Got (Unit {0}) → List ℕ → Got A
@@ -91,10 +88,6 @@ module _ {A : Type 0} (g : Table → List (Con ℕ) → Got A) where
 
   abbrev pub made : Table → List ℕ → Got A
   made t ws = made_past t (tableKept t) ws
-
-  kept : (n : NameTable) → tableKept (table_of n.pool.now n.table.now) ≡ got tt
-  unfolding tableKept
-  kept n = rw n.good.good
 
   module _ (ws : List ℕ) where
     pub came-in : (names : Result NameTable Refusal) (s : GivenSet) → names ≡ Ok s.names → got (constraints_in s) ≡ entered names ws
