@@ -19,7 +19,7 @@ use Rattle.rules.specs.Lines.{its, constraints, last_of, settledSet, agreedSet, 
 use Rattle.rules.specs.declared.Refusal.{Refusal}
 use Rattle.rules.specs.declared.Refusal.TheVariants.{TooLarge}
 use Rattle.laws.specs.Checks.{need-passed}
-use Rattle.laws.specs.Lists.{true≢false, and_left, bound-step, clash, is_all, Every}
+use Rattle.laws.specs.Lists.{true≢false, and_left, bound-step, bracket, clash, is_all, Every}
 use Rattle.laws.specs.NameTable.{Good}
 use Rattle.theorems_soundness.specs.Claims.{Ordered}
 use Rattle.theorems_soundness.proofs.Words.{numbers-ordered}
@@ -32,6 +32,7 @@ use Rattle.records.specs.Good.{numbers, holding}
 use Rattle.records_buffers.specs.Lent.{Long, long}
 use Rattle.records_buffers.specs.Handed.{as_written, unwritten}
 use Rattle.records_buffers.specs.Told.{handed, Made}
+use Rattle.types.proofs.Tested.{as-refused}
 use Rattle.lines_entry.specs.Entered.{lineEntered, entered_over, checked-entered}
 use Rattle.laws.specs.Nesting.{Within}
 use Rattle.lines.specs.Nested.{Flat, constraints-flat, line-flat}
@@ -63,10 +64,6 @@ type_of pool table names ss = lineType (numbersOf (table_of pool table)) ss name
 abbrev pub line_over : Result NameTable Refusal → List ℕ → List ℕ → List ℕ → List ℕ → Got (List Rec)
 line_over (Ok n) steps types lines names = checkedLine (table_of n.pool.now n.table.now) steps types lines names
 line_over (Err why) steps types lines names = lineShort steps types lines names >> refused (number_of why)
-
-grouped : {A B C : Type 0} (m : Got A) (f : A → Got B) (g : B → Got C) → ((m >>= f) >>= g) ≡ (m >>= λ a. f a >>= g)
-grouped (got a) f g = refl
-grouped (refused n) f g = refl
 
 module _ (pool table names : List ℕ) where
   abbrev ν : Names ℕ
@@ -109,7 +106,7 @@ module _ (pool table names : List ℕ) where
     type-is : type_of pool table names ss ≡ setType pool table cs last
     unfolding lineType
     type-is = rw (last-is names ss h.enough step-there)
-        (grouped (agreedSet ν cs) (λ bs. replaceTy ν bounded (bindings ν bs) (its last)) (λ ty. got (writeTy ty)))
+        (bracket (agreedSet ν cs) (λ bs. replaceTy ν bounded (bindings ν bs) (its last)) (λ ty. got (writeTy ty)))
 
     pub type-made : (n : ℕ) → length ss ≡ n → (w : List ℕ) (r : Result ℕ Refusal) → Made (setType pool table cs (get_or names (n - 1) 0)) w r
         → Made (type_of pool table names ss) w r
@@ -121,10 +118,6 @@ module _ (pool table names : List ℕ) where
     large-made w l = refused-made (type_of pool table names ss) w TooLarge (type-is ∙ rw (lt-leb (sum_of sizeCon cs) 2048 l))
 
 -- ══ The checks at entry ══
-
-as-refused : {A B : Type 0} (l : Got (Unit {0})) (n k : ℕ) → ◌≡◌ {A = Got A} (l >> refused k) (refused n) → ◌≡◌ {A = Got B} (l >> refused k) (refused n)
-as-refused (refused i) n k e = cc
-as-refused (got x) n k e = cc
 
 not-refused : {A B : Type 0} (l : Got (Unit {0})) (k : ℕ) (a : A) → (l >> refused k) ≡ got a → B
 not-refused (refused i) k a e = clash e
@@ -164,7 +157,8 @@ module _ (steps types lines names : List ℕ) where
   pub refused-line : (table : Result NameTable Refusal) (w : List ℕ) (k : Refusal) → entered_over table steps types lines names ≡ refused (number_of k)
       → Made (line_over table steps types lines names) w (Err k)
   refused-line (Ok n) w k e = refused-made (checkedLine (over n) steps types lines names) w k (checked-entered (over n) steps types lines names ∙ rw e)
-  refused-line (Err why) w k e = refused-made (line_over (Err why) steps types lines names) w k (as-refused (lineShort steps types lines names) (number_of k) (number_of why) e)
+  refused-line (Err why) w k e = refused-made (line_over (Err why) steps types lines names) w k
+      (as-refused (lineShort steps types lines names) (number_of k) (number_of why) (sym e))
 
   -- no line comes in over a table that was refused
   pub no-table : {A : Type 0} (table : Result NameTable Refusal) (why : Refusal) (ss : List (LineStep ℕ)) → table ≡ Err why
