@@ -12,12 +12,12 @@ invariant_of-made c = let (cs, s) = c.requires
     in record { near = near-there _ _ _ _ cs s c.if-n-gt-RECORDS.false; trees = (cs, cons-there _ _ _ _ cs s c.if-n-gt-RECORDS.false) }
 
 pub constraints_flat-requires : goal.constraints_flat-requires
-constraints_flat-requires c = let (cs, s) = c.requires in there-good _ _ _ _ cs s c.if-n-gt-RECORDS.false c.constraints_flat-arg-1.given.1.0
+constraints_flat-requires c = let (cs, s) = c.requires in there-good _ _ _ _ cs s c.if-n-gt-RECORDS.false (_, search)
 
 pub returns-then-constraints_flat : goal.returns-then-constraints_flat
 returns-then-constraints_flat c = λ cs s.
-    set-shallow _ _ _ _ cs s c.if-n-gt-RECORDS.false c.constraints_flat-arg-1.given.1.0 c.constraints_flat.ensures c.if-constraints_flat.true
+    set-shallow _ _ _ _ cs s c.if-n-gt-RECORDS.false (_, search) c.constraints_flat.ensures c.if-constraints_flat.true
 
 pub returns-else-constraints_flat : goal.returns-else-constraints_flat
 returns-else-constraints_flat c = λ cs s.
-    set-deep _ _ _ _ cs s c.if-n-gt-RECORDS.false c.constraints_flat-arg-1.given.1.0 c.constraints_flat.ensures c.if-constraints_flat.false
+    set-deep _ _ _ _ cs s c.if-n-gt-RECORDS.false (_, search) c.constraints_flat.ensures c.if-constraints_flat.false

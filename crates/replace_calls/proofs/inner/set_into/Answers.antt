@@ -27,7 +27,7 @@ set_fits-requires c =
     let b = c.args.bindings in
     let back : c.front-1.given.0 ≡ c.replace_constraints-put.new.out.words.now = search rules in
     let f = c.fill.ensures _ _ b.all.trees.0 b.names.good (listed _ _ b.all b.fine) in
-    let left = set-left _ _ b.all.trees.0 b.fine c.args.set.trees.0 c.requires.good f c.replace_constraints-arg-1.given.0 c.replace_constraints-put.ensures in
+    let left = set-left _ _ b.all.trees.0 b.fine c.args.set.trees.0 c.requires.good f (_, search) c.replace_constraints-put.ensures in
     let k = came c.in-Ok.is left in (
       k.value,
       rw back (set-stands _ _ b.all.trees.0 b.fine c.args.set.trees.0 c.requires.good refl (omega (arith, c.split_at_mut-front.ensures.front_len)) k),
@@ -38,7 +38,7 @@ returns-in-Ok c =
     let b = c.args.bindings in
     let back : c.front-1.given.0 ≡ c.replace_constraints-put.new.out.words.now = search rules in
     let f = c.fill.ensures _ _ b.all.trees.0 b.names.good (listed _ _ b.all b.fine) in
-    let left = set-left _ _ b.all.trees.0 b.fine c.args.set.trees.0 c.requires.good f c.replace_constraints-arg-1.given.0 c.replace_constraints-put.ensures in
+    let left = set-left _ _ b.all.trees.0 b.fine c.args.set.trees.0 c.requires.good f (_, search) c.replace_constraints-put.ensures in
     let k = came c.in-Ok.is left in
     let s = set-stands _ _ b.all.trees.0 b.fine c.args.set.trees.0 c.requires.good refl (omega (arith, c.split_at_mut-front.ensures.front_len)) k in
     rw back (set-made _ _ c.args.set.trees.0 b.all.trees.0 _ _ (made-to (sum_of sizeCon) (max_of depthCon) (collect writeCon) set-length short-set _ _ refl
@@ -49,6 +49,6 @@ pub returns-in-Err : goal.returns-in-Err
 returns-in-Err c =
     let b = c.args.bindings in
     let f = c.fill.ensures _ _ b.all.trees.0 b.names.good (listed _ _ b.all b.fine) in
-    let left = set-left _ _ b.all.trees.0 b.fine c.args.set.trees.0 c.requires.good f c.replace_constraints-arg-1.given.0 c.replace_constraints-put.ensures in
+    let left = set-left _ _ b.all.trees.0 b.fine c.args.set.trees.0 c.requires.good f (_, search) c.replace_constraints-put.ensures in
     set-made _ _ c.args.set.trees.0 b.all.trees.0 _ _ (made-stop (sum_of sizeCon) (max_of depthCon) (collect writeCon) set-length short-set _ _ refl
     (omega (arith, c.split_at_mut-front.ensures.front_len)) _ _ c.in-Err.is left)

@@ -27,7 +27,7 @@ returns-in-Ok c =
     let b = c.args.bindings in
     let back : c.front-1.given.0 ≡ c.replace_type-put.new.out.words.now = search rules in
     let f = c.fill.ensures _ _ b.all.trees.0 b.names.good (listed _ _ b.all b.fine) in
-    let left = type-left _ _ b.all.trees.0 b.fine c.args.t.tree.0 c.requires.good f c.replace_type-arg-1.given.0 c.replace_type-put.ensures in
+    let left = type-left _ _ b.all.trees.0 b.fine c.args.t.tree.0 c.requires.good f (_, search) c.replace_type-put.ensures in
     let k = came c.in-Ok.is left in
     let s = type-stands _ _ b.all.trees.0 b.fine c.args.t.tree.0 c.requires.good refl (omega (arith, c.split_at_mut-front.ensures.front_len)) k in
     rw back (made-to size depth writeTy size-ty short-ty _ _ refl (omega (arith, c.split_at_mut-front.ensures.front_len)) _ _ _ k
@@ -37,5 +37,5 @@ pub returns-in-Err : goal.returns-in-Err
 returns-in-Err c =
     let b = c.args.bindings in
     let f = c.fill.ensures _ _ b.all.trees.0 b.names.good (listed _ _ b.all b.fine) in
-    let left = type-left _ _ b.all.trees.0 b.fine c.args.t.tree.0 c.requires.good f c.replace_type-arg-1.given.0 c.replace_type-put.ensures in
+    let left = type-left _ _ b.all.trees.0 b.fine c.args.t.tree.0 c.requires.good f (_, search) c.replace_type-put.ensures in
     made-stop size depth writeTy size-ty short-ty _ _ refl (omega (arith, c.split_at_mut-front.ensures.front_len)) _ _ c.in-Err.is left
