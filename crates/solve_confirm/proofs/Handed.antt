@@ -113,8 +113,8 @@ module _ (pool table set : List ℕ) (l : lentTable pool table ≡ got tt) (name
   pub answered-over : (b b' : List ℕ) (s : Solution) → Answered (call_over names solvedSet set) b b' s → Answered (solvedSet (table_of pool table) set) b b' s
   answered-over b b' s a = subst (λ (m : Got (Answer ℕ)). Answered m b b' s) same a
 
-  pub judged-over : (r : Result (std.Option ℕ) Refusal) → IfOk names (λ n. VerdictOn n set r) → (cs : List (Con ℕ)) → setGiven (table_of pool table) set ≡ got cs
-      → JudgedAs (numbersOf (table_of pool table)) cs (solvedSet (table_of pool table) set) (toldBy is_none r)
+  pub judged-over : (r : Result (std.Option ℕ) Refusal) → IfOk names (λ n. VerdictOn n set r) → (cs : List (Con ℕ))
+      → setGiven (table_of pool table) set ≡ got cs → JudgedAs (numbersOf (table_of pool table)) cs (solvedSet (table_of pool table) set) (toldBy is_none r)
   judged-over r v = go names i v same
     where
       go : (names : Result NameTable Refusal) → IfOk names (λ n. (n.pool.now ≡ pool) × (n.table.now ≡ table)) → IfOk names (λ n. VerdictOn n set r)

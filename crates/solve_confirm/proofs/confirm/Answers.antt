@@ -39,7 +39,8 @@ copy-requires-clause-within c =
     let answered = answered-over _ _ _ enough.table-met _ n.answer n.same _ _ _ c.solve_and_judge.ensures.answered in
     let judged = judged-over _ _ _ enough.table-met _ n.answer n.same _ c.solve_and_judge.ensures.judged in
     let k : length c.solve_and_judge.new.res ≡ 8192 = search rules in
-    let s = small (table_of c.args.pool.now c.args.table.now) c.args.set.now _ _ (toldBy is_none c.solve_and_judge.result.verdict) _ _ answered judged c.ruled-solution.ensures k in
+    let s = small (table_of c.args.pool.now c.args.table.now) c.args.set.now _ _ (toldBy is_none c.solve_and_judge.result.verdict) _ _ answered judged
+    c.ruled-solution.ensures k in
     omega (arith, c.records.ensures, s, k)
 
 pub copy-requires-clause-near : goal.copy-requires-clause-near
@@ -50,7 +51,8 @@ copy-requires-clause-near c =
     let answered = answered-over _ _ _ enough.table-met _ n.answer n.same _ _ _ c.solve_and_judge.ensures.answered in
     let judged = judged-over _ _ _ enough.table-met _ n.answer n.same _ c.solve_and_judge.ensures.judged in
     let k : length c.solve_and_judge.new.res ≡ 8192 = search rules in
-    let s = small (table_of c.args.pool.now c.args.table.now) c.args.set.now _ _ (toldBy is_none c.solve_and_judge.result.verdict) _ _ answered judged c.ruled-solution.ensures k in
+    let s = small (table_of c.args.pool.now c.args.table.now) c.args.set.now _ _ (toldBy is_none c.solve_and_judge.result.verdict) _ _ answered judged
+    c.ruled-solution.ensures k in
     omega (arith, c.records.ensures, s)
 
 pub returns : goal.returns
