@@ -78,8 +78,8 @@ turns-preserved-in-Ok-Read c =
       c.round.auto.new ∙ w,
       λ cs h.
           let g = i cs h in
-          going-here _ _ c.args.names.good cs h.admitted _ _ _ _ g _ (round-whole c.turns.state.now (c.round.ensures g.state (whole c.turns.state.now g.held))) _
-          (c.in-Ok-Read.is ∙ ap Ok c.in-Ok-Read.field-0-is),
+          going-here _ _ c.args.names.good cs h.admitted _ _ _ _ g _
+          (round-whole c.turns.state.now (c.round.ensures g.state (whole c.turns.state.now g.held))) _ (c.in-Ok-Read.is ∙ ap Ok c.in-Ok-Read.field-0-is),
     )
 
 pub overflow_add-rounds-in-Ok-Written : goal.overflow_add-rounds-in-Ok-Written
