@@ -18,7 +18,7 @@ use Rattle.solve_round.specs.declared.Others.{Others}
 use Rattle.solve_round.specs.States.{Front, Idle, stillStuck, StateHeld}
 use Rattle.solve_round.specs.Parts.{after, appends, keeps, performs}
 use Rattle.solve_round.proofs.Limits.{kept, long, deep}
-use Rattle.solve_round.proofs.Performing.{none-there}
+use Rattle.solve_round.proofs.Performing.{nothing-there}
 use Rattle.solve_round.proofs.Searching.{is-part}
 
 -- a state that is kept is kept as it is
@@ -64,7 +64,7 @@ module _ (pool table : List ℕ) (o : Others) (idle : Idle pool table o.before.t
 
     pub still : (r : code.Step) → Stepped was d 0 (Ok r) (trySatisfy (numbers pool table) bounded c)
         → Front pool table w (record { start = 0; stuck = stillStuck r k; ends = ends }) st.cons
-    still (Bind q) s = record { passed = []; left = st.cons; are = refl; there = none-there w; stay = h.cons; idle = tt }
+    still (Bind q) s = record { passed = []; left = st.cons; are = refl; there = nothing-there w 0; stay = h.cons; idle = tt }
     still (Split q) s = unbound (Split q) (λ x t s. let f = s.says.0 in let z : ◌≡◌ {A = ℕ} 0 1 = cc in omega arith) s
     still Done s = unbound Done (λ x t s. let f = s.says.0 in let z : ◌≡◌ {A = ℕ} 0 1 = cc in omega arith) s
     still Stuck s = unbound Stuck (λ x t s. let f = s.says.0 in let z : ◌≡◌ {A = ℕ} 0 1 = cc in omega arith) s

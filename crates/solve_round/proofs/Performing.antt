@@ -5,7 +5,7 @@ use Rattle.std.proofs.lemmas.List.Edits.{sets}
 use Rattle.std.specs.Prelude.{true, List, [], ◌∷◌, ℕ, suc, ◌+◌, ◌≤◌, length, Ok, Err}
 use native.Mathlib.Omega.{arith}
 use Rattle.std.proofs.Math.Seq.{length-sets}
-use Rattle.rules.specs.Base.{Got, got, refused, bounded, all, each, collect, sum_of}
+use Rattle.rules.specs.Base.{Got, got, refused, bounded, all, collect, sum_of}
 use Rattle.rules.specs.Refusals.{number_of}
 use Rattle.rules.specs.Rounds.{Step, bind, split, done, stuck, trySatisfy}
 use Rattle.rules.specs.Trees.{Names, Ty, dim, Con, Binding, ◌≔◌, size, sizeCon, sizeBinding, depth, depthCon}
@@ -13,7 +13,7 @@ use Rattle.rules.specs.WellFormed.{goodBinding}
 use Rattle.rules.specs.Writing.{words, writeCon, writeBinding}
 use Rattle.rules.specs.declared.Refusal.{Refusal}
 use Rattle.laws.specs.KeepsGood.{rule-good}
-use Rattle.laws.specs.Lists.{and_both, is_all, each-parts}
+use Rattle.laws.specs.Lists.{and_both, is_all, each-length}
 use Rattle.laws.specs.Nesting.{most, rule-within}
 use Rattle.laws.specs.RuleCases.{
   Sides,
@@ -44,15 +44,10 @@ use Rattle.solve_step.specs.declared.Step.TheVariants.{Bind, Split, Done, Stuck}
 use Rattle.types.specs.Binds.{Binds, IsBinds, one-binds}
 use Rattle.types.specs.Sets.{Cons, HoldsCons, IsCons, one-set}
 use Rattle.solve_round.specs.declared.Others.{Others}
-use Rattle.solve_round.specs.Parts.{Taken}
+use Rattle.solve_round.specs.Parts.{First, Taken}
 use Rattle.solve_round.specs.States.{SoundSet}
 
 -- ══ A binding takes no more room than the constraint it comes from ══
-
-each-length : {A B : Type 0} (f : A → Got B) (xs : List A) (ys : List B) → each f xs ≡ got ys → length ys ≡ length xs
-unfolding each
-each-length f [] ys e = let z : [] ≡ ys = cc in sym (ap length z)
-each-length f (x ∷ xs) ys e = let t = each-parts f x xs ys e in sym (ap length t.both) ∙ ap suc (each-length f xs t.second t.then)
 
 bind-fits : (ν : Names ℕ) (c : Con ℕ) (s : Step ℕ) (x : ℕ) (t : Ty ℕ) → Rule ν bounded c s → s ≡ bind x t → sizeBinding (x ≔ t) ≤ sizeCon c
 unfolding sizeCon sizeBinding size
@@ -91,8 +86,7 @@ module _ (pool table : List ℕ) (d : List ℕ) (o : Others) (r : code.Step) (c 
   pub record TookSplit (q : ℕ) : Type 0 where
     pub cons : List (Con ℕ)
     pub is : trySatisfy (numbers pool table) bounded c ≡ got (split cons)
-    pub many : q ≡ sum_of sizeCon cons
-    pub there : q ≤ 2048 → IsCons d 0 q cons
+    pub first : First d q cons
     pub sound : SoundSet pool table cons
 
   -- what the answer says of the outcome
@@ -143,8 +137,10 @@ module _ (pool table : List ℕ) (d : List ℕ) (o : Others) (r : code.Step) (c 
           record {
             cons = cs;
             is = j;
-            many = omega (arith, z);
-            there = λ few. rw z (written-cons pool table k.was d 0 cs s.says.1 (omega (arith, n, z, few, room)) (cons-weaker pool table cs g));
+            first = record {
+              many = omega (arith, z);
+              there = λ few. rw z (written-cons pool table k.was d 0 cs s.says.1 (omega (arith, n, z, few, room)) (cons-weaker pool table cs g));
+            };
             sound = record { good = g; flat = omega (arith, most depthCon cs (depthCon c) (rule-within (numbers pool table) bounded c (split cs) v), k.deep) };
           }
       go (got done) j s = absurd (let f = s.says.0 in let z : ◌≡◌ {A = ℕ} 0 1 = cc in omega arith)
@@ -179,8 +175,8 @@ pub nothing-there : (s : List ℕ) (at : ℕ) → IsCons s at at []
 unfolding HoldsCons
 nothing-there s at = record { held = tt; ends = omega arith }
 
-pub none-there : (s : List ℕ) → IsCons s 0 0 []
-none-there s = nothing-there s 0
+pub none-first : (s : List ℕ) → First s 0 []
+none-first s = record { many = refl; there = λ few. nothing-there s 0 }
 
 -- a refusal is the rule's
 pub took-refused : {was d : List ℕ} {out : ℕ} {why : Refusal} {R : Got (Step ℕ)} → Stepped was d out (Err why) R → R ≡ refused (number_of why)

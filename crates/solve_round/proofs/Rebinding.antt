@@ -1,5 +1,5 @@
 -- A new binding put into the constraints and the older bindings, and written behind them.
-use Rattle.std.specs.Prelude.{◌≡◌, refl, Bool, true, List, [], ◌∷◌, ◌++◌, ℕ, ◌≤◌, min, length, Result, Ok, Err}
+use Rattle.std.specs.Prelude.{◌≡◌, refl, Bool, true, List, [], ◌∷◌, ◌++◌, ℕ, ◌≤◌, min, length, Result, Err}
 use Rattle.std.proofs.Common.{arith, ap, sym, subst, ◌∙◌}
 use Rattle.std.proofs.Math.Option.{Option, some}
 use Rattle.rules.specs.Base.{Got, got, refused, ◌>>=◌, bounded, all, each, collect, sum_of}
@@ -7,7 +7,7 @@ use Rattle.rules.specs.Refusals.{number_of}
 use Rattle.rules.specs.Replacing.{Look, bindings, replaceCon, replaceBinding}
 use Rattle.rules.specs.Rounds.{State, perform, sizeState}
 use Rattle.rules.specs.Trees.{Open, Ty, Con, Binding, ◌≔◌, sizeCon, sizeBinding, depthCon, depthBinding}
-use Rattle.rules.specs.Writing.{Rec, writeCon, writeBinding}
+use Rattle.rules.specs.Writing.{writeCon, writeBinding}
 use Rattle.rules.specs.declared.Refusal.{Refusal}
 use Rattle.laws.specs.Contents.{collect-append}
 use Rattle.laws.specs.Lists.{and_both}
@@ -16,9 +16,10 @@ use Rattle.laws.specs.Nesting.{max_both, cons-deep, bindings-deep}
 use Rattle.laws.specs.Size.{set-length, bindings-length}
 use Rattle.records.specs.Cut.{cut, cut-length, short-con, short-binding, short-all}
 use Rattle.records.specs.Good.{goodBinding, goodCon, goodTy, numbers, holding}
+use Rattle.replace.proofs.Walks.{stops, behind as after-records}
 use Rattle.replace.specs.Came.{Came}
 use Rattle.replace.specs.Kept.{binds-weaker, cons-kept, binds-kept}
-use Rattle.replace.specs.Leaves.{LeavesOf, Leaves}
+use Rattle.replace.specs.Leaves.{Leaves}
 use Rattle.replace.specs.Runs.{looked-good}
 use Rattle.replace.specs.Substitutions.{ALook, one-look}
 use Rattle.replace.specs.Well.{names, Listed, Lent}
@@ -50,6 +51,18 @@ module _ {B : Type 0} where
   unfolding each
   each-both f [] ys = whole (each f ys)
   each-both f (x ∷ xs) ys = rw (each-both f xs ys) (behind (f x) (each f xs) (each f ys))
+
+-- ══ The other constraints ══
+
+module _ (f : Con ℕ → Got (Con ℕ)) (o : Others) {w w₁ : Writer} where
+  pub first-stops : {k : Refusal} → w₁.words.ghost_name ≡ w.words.ghost_name → each f o.before.trees.0 ≡ refused (number_of k)
+      → Leaves (collect writeCon) w w₁ (Err k) (each f (others o))
+  first-stops s e = stops (rw (each-both f o.before.trees.0 o.behind.trees.0, e)) s
+
+  pub both-written : {w₂ : Writer} {r : Result (Unit {0}) Refusal} → Came (collect writeCon) w w₁ (each f o.before.trees.0)
+      → Leaves (collect writeCon) w₁ w₂ r (each f o.behind.trees.0) → Leaves (collect writeCon) w w₂ r (each f (others o))
+  both-written p q = rw (each-both f o.before.trees.0 o.behind.trees.0, p.is)
+      (after-records (λ vs. p.value ++ vs) (collect writeCon p.value) (λ vs. collect-append writeCon p.value vs) p.wrote q)
 
 -- ══ What is put in ══
 
@@ -93,64 +106,55 @@ module _ (pool table : List ℕ) {b : Bindings} {x : ℕ} {t : Ty ℕ} (h : Boun
   bindR c = replaceBinding (names pool table) bounded look c
 
   abbrev fst : Got (List (Con ℕ))
-  fst = each conR o.before.trees.0
+  fst = each conR (others o)
 
-  abbrev snd : Got (List (Con ℕ))
-  snd = each conR o.behind.trees.0
-
-  abbrev trd : Got (List (Binding ℕ))
-  trd = each bindR o.bindings.trees.0
+  abbrev snd : Got (List (Binding ℕ))
+  snd = each bindR o.bindings.trees.0
 
   abbrev R : Got (Option (State ℕ))
   R = rebinds pool table (others o) x t o.bindings.trees.0
 
-  pub first-stops : {k : ℕ} → fst ≡ refused k → R ≡ refused k
+  pub others-stop : {k : ℕ} → fst ≡ refused k → R ≡ refused k
   unfolding perform
-  first-stops e = rw (← same, each-both conR o.before.trees.0 o.behind.trees.0, e)
+  others-stop e = rw (← same, e)
 
-  pub second-stops : {k : ℕ} {us : List (Con ℕ)} → fst ≡ got us → snd ≡ refused k → R ≡ refused k
+  pub bindings-stop : {k : ℕ} {us : List (Con ℕ)} → fst ≡ got us → snd ≡ refused k → R ≡ refused k
   unfolding perform
-  second-stops d e = rw (← same, each-both conR o.before.trees.0 o.behind.trees.0, d, e)
-
-  pub third-stops : {k : ℕ} {us vs : List (Con ℕ)} → fst ≡ got us → snd ≡ got vs → trd ≡ refused k → R ≡ refused k
-  unfolding perform
-  third-stops d e f = rw (← same, each-both conR o.before.trees.0 o.behind.trees.0, d, e, f)
+  bindings-stop d e = rw (← same, d, e)
 
   look-good : (n : Open ℕ) (u : Ty ℕ) → look n ≡ some u → goodTy pool table 0 u ≡ true
   look-good n u e = looked-good (numbers pool table) (holding pool table) 0 (one pool table h) n u (good-one pool table h)
       (ap (λ (l : Look ℕ). l n) (sym same) ∙ e)
 
-  module _ {us vs : List (Con ℕ)} {zs : List (Binding ℕ)} (d : fst ≡ got us) (e : snd ≡ got vs) (f : trd ≡ got zs) where
+  module _ {us : List (Con ℕ)} {zs : List (Binding ℕ)} (d : fst ≡ got us) (e : snd ≡ got zs) where
     abbrev pub rebound : State ℕ
-    rebound = record { cons = us ++ vs; binds = zs ++ (x ≔ t ∷ []) }
+    rebound = record { cons = us; binds = zs ++ (x ≔ t ∷ []) }
 
     pub rebinds-is : R ≡ keeps rebound
     unfolding perform
-    rebinds-is = rw (← same, each-both conR o.before.trees.0 o.behind.trees.0, d, e, f)
+    rebinds-is = rw (← same, d, e)
 
-    pub made-good : all (goodCon pool table 0) (us ++ vs) ≡ true
-    made-good = all_both (goodCon pool table 0) us vs ((cons-kept pool table look look-good o.before.trees.0 s.before.good).holds us d)
-        ((cons-kept pool table look look-good o.behind.trees.0 s.behind.good).holds vs e)
+    pub made-good : all (goodCon pool table 0) us ≡ true
+    made-good = (cons-kept pool table look look-good (others o)
+        (all_both (goodCon pool table 0) o.before.trees.0 o.behind.trees.0 s.before.good s.behind.good)).holds us d
 
     pub binds-good : all (goodBinding pool table 0) (zs ++ (x ≔ t ∷ [])) ≡ true
     binds-good = all_both (goodBinding pool table 0) zs (x ≔ t ∷ [])
-        ((binds-kept pool table look look-good o.bindings.trees.0 s.bindings.good).holds zs f) (good-one pool table h)
+        ((binds-kept pool table look look-good o.bindings.trees.0 s.bindings.good).holds zs e) (good-one pool table h)
 
     -- bound to a type without types inside
     pub known : {p : Bool} → p ≡ leaf t → Known p rebound
     unfolding depthBinding
     known i j =
         let low = leaf-flat t (sym i ∙ j) in
-        let a = (cons-deep (names pool table) bounded x t 0 low o.before.trees.0).holds us (rw (← same) d) in
-        let c = (cons-deep (names pool table) bounded x t 0 low o.behind.trees.0).holds vs (rw (← same) e) in
-        let g = (bindings-deep (names pool table) bounded x t 0 low o.bindings.trees.0).holds zs (rw (← same) f) in
+        let a = (cons-deep (names pool table) bounded x t 0 low (others o)).holds us (rw (← same) d) in
+        let g = (bindings-deep (names pool table) bounded x t 0 low o.bindings.trees.0).holds zs (rw (← same) e) in
         omega (
           arith,
           depth-is rebound,
-          max_both depthCon us vs,
+          max_both depthCon o.before.trees.0 o.behind.trees.0,
           max_both depthBinding zs (x ≔ t ∷ []),
           a,
-          c,
           g,
           low,
           s.before.flat,
@@ -160,55 +164,45 @@ module _ (pool table : List ℕ) {b : Bindings} {x : ℕ} {t : Ty ℕ} (h : Boun
 
     -- ══ What was written ══
 
-    module _ {w w₁ w₂ w₃ w₄ : Writer} (front : w.at ≡ 0) (room : 8192 ≤ length w.words.now) (near : length w.words.now ≤ 4_000_000_000)
-        (p : Writes w w₁ (cut (collect writeCon us))) (q : Writes w₁ w₂ (cut (collect writeCon vs)))
-        (r : Writes w₂ w₃ (cut (collect writeBinding zs))) (l : Writes w₃ w₄ (collect writeBinding b.trees.0)) where
-      cut-many : min w₄.at last ≡ min (sizeState rebound) last
+    module _ {w w₁ w₂ w₃ : Writer} (front : w.at ≡ 0) (room : 8192 ≤ length w.words.now) (near : length w.words.now ≤ 4_000_000_000)
+        (p : Writes w w₁ (cut (collect writeCon us))) (r : Writes w₁ w₂ (cut (collect writeBinding zs)))
+        (l : Writes w₂ w₃ (collect writeBinding b.trees.0)) where
+      cut-many : min w₃.at last ≡ min (sizeState rebound) last
       cut-many =
           omega (
             arith,
             p.at,
-            q.at,
             r.at,
             l.at,
             front,
             cut-length (collect writeCon us),
-            cut-length (collect writeCon vs),
             cut-length (collect writeBinding zs),
             set-length us,
-            set-length vs,
             bindings-length zs,
             bindings-length b.trees.0,
             ap (sum_of sizeBinding) h.is,
             size-is rebound,
-            sum_both sizeCon us vs,
             sum_both sizeBinding zs (x ≔ t ∷ []),
           )
 
-      module _ (few : w₄.at ≤ 2048) where
+      module _ (few : w₃.at ≤ 2048) where
         small : sizeState rebound ≤ 2048
         small = omega (arith, cut-many, few)
 
-        cons-written : Writes w w₂ (collect writeCon (us ++ vs))
-        cons-written =
-            let k : sum_of sizeCon us ≤ 65_535 = omega (arith, small, size-is rebound, sum_both sizeCon us vs) in
-            let m : sum_of sizeCon vs ≤ 65_535 = omega (arith, small, size-is rebound, sum_both sizeCon us vs) in
-            let i : cut (collect writeCon us) ≡ collect writeCon us = short-all sizeCon writeCon short-con us k in
-            let j : cut (collect writeCon vs) ≡ collect writeCon vs = short-all sizeCon writeCon short-con vs m in
-            let z : collect writeCon us ++ collect writeCon vs ≡ collect writeCon (us ++ vs) = sym (collect-append writeCon us vs) in
-            subst (Writes w w₂) z (writes-then (collect writeCon us) (collect writeCon vs) (subst (Writes w w₁) i p) (subst (Writes w₁ w₂) j q))
+        cons-written : Writes w w₁ (collect writeCon us)
+        cons-written = subst (Writes w w₁) (short-all sizeCon writeCon short-con us (omega (arith, small, size-is rebound))) p
 
-        binds-written : Writes w₂ w₄ (collect writeBinding (zs ++ (x ≔ t ∷ [])))
+        binds-written : Writes w₁ w₃ (collect writeBinding (zs ++ (x ≔ t ∷ [])))
         binds-written =
             let k : sum_of sizeBinding zs ≤ 65_535 = omega (arith, small, size-is rebound, sum_both sizeBinding zs (x ≔ t ∷ [])) in
             let i : cut (collect writeBinding zs) ≡ collect writeBinding zs = short-all sizeBinding writeBinding short-binding zs k in
             let j : collect writeBinding b.trees.0 ≡ collect writeBinding (x ≔ t ∷ []) = ap (collect writeBinding) h.is in
             let z : collect writeBinding zs ++ collect writeBinding (x ≔ t ∷ []) ≡ collect writeBinding (zs ++ (x ≔ t ∷ [])) =
             sym (collect-append writeBinding zs (x ≔ t ∷ [])) in
-            subst (Writes w₂ w₄) z (writes-then (collect writeBinding zs) (collect writeBinding (x ≔ t ∷ [])) (subst (Writes w₂ w₃) i r)
-            (subst (Writes w₃ w₄) j l))
+            subst (Writes w₁ w₃) z (writes-then (collect writeBinding zs) (collect writeBinding (x ≔ t ∷ [])) (subst (Writes w₁ w₂) i r)
+            (subst (Writes w₂ w₃) j l))
 
-      pub rebind-made : Made pool table w₄.words.now (record { constraints = w₂.at; bindings = w₄.at }) rebound
+      pub rebind-made : Made pool table w₃.words.now (record { constraints = w₁.at; bindings = w₃.at }) rebound
       rebind-made = record {
         many = cut-many;
         near = λ few. omega (arith, near, long-same pool table rebound front room (cons-written few) (binds-written few) made-good binds-good few);

@@ -1,5 +1,5 @@
 -- The first constraint to which a rule applies: what is left of the search.
-use Rattle.std.specs.Prelude.{◌≡◌, true, refl, List, [], ◌∷◌, ◌++◌, ℕ, ◌+◌, ◌≤◌}
+use Rattle.std.specs.Prelude.{◌≡◌, true, refl, List, [], ◌∷◌, ◌++◌, ℕ, ◌+◌, ◌≤◌, Ok}
 use Rattle.std.proofs.Common.{ap, arith, sym, subst, ◌∙◌}
 use Rattle.std.proofs.Math.Bool.{and-eq-true_iff}
 use mathlib.Core.List.{append-nil, cons≢nil}
@@ -11,10 +11,13 @@ use Rattle.rules.specs.Trees.{Con, Binding, sizeCon, depthCon}
 use Rattle.laws.specs.Lists.{and_both, every_append}
 use Rattle.records.specs.Good.{goodCon, numbers}
 use Rattle.records.specs.Holds.{HoldsCon}
+use Rattle.solve_step.specs.Stepped.{Stepped}
+use Rattle.solve_step.specs.declared.Step as code
+use Rattle.types.specs.declared.Bindings.{Bindings}
 use Rattle.types.specs.Sets.{con-some, HoldsCons, IsCons, placed}
 use Rattle.solve_round.specs.declared.Others.{Others}
-use Rattle.solve_round.specs.States.{Idle, SoundSet}
-use Rattle.solve_round.specs.Parts.{after, performs}
+use Rattle.solve_round.specs.States.{Idle, SoundSet, SoundBinds}
+use Rattle.solve_round.specs.Parts.{after, performs, Are, Taken}
 use Rattle.solve_round.proofs.Limits.{kept, sound-both, sum_both}
 
 -- constraints with the words that they stand in, and their places there
@@ -172,6 +175,22 @@ module _ (pool table : List ℕ) where
     module _ {x : List ℕ × ℕ × Con ℕ} {left : Rest} (f : Found x left) where
       abbrev c : Con ℕ
       c = x.2
+
+      -- without it: what the constraint that is taken is
+      pub is-taken : {d was : List ℕ} {r : code.Step} (o : Others) {p : Others} → SoundBinds pool table o.bindings.trees.0 → Are p f.before f.behind o.bindings
+          → Stepped was d 0 (Ok r) (trySatisfy (numbers pool table) bounded c) → Taken pool table d p r c
+      is-taken o sound are stepped = record {
+        sound = record {
+          before = subst (SoundSet pool table) (sym are.before) f.sound_before;
+          behind = subst (SoundSet pool table) (sym are.behind) f.sound_behind;
+          bindings = subst (λ (b : Bindings). SoundBinds pool table b.trees.0) (sym are.bindings) sound;
+        };
+        good = f.good;
+        deep = f.deep;
+        short = omega (arith, f.short);
+        was = _;
+        stepped = stepped;
+      }
 
       -- a rule applies to it
       pub applied : (o : Others) → o.before.trees.0 ≡ f.before → o.behind.trees.0 ≡ f.behind → o.bindings.trees.0 ≡ bs

@@ -1,7 +1,7 @@
 -- What the steps of a round ask and what they leave.
 use Rattle.std.specs.Prelude.{◌≡◌, Bool, true, false, List, [], ◌∷◌, ◌++◌, ℕ, ◌+◌, ◌≤◌, length, min, Ok, Err, Some}
 use Rattle.std.proofs.Math.Option.{Option, none, some}
-use Rattle.rules.specs.Base.{Got, got, refused, ◌>>=◌, bounded, all}
+use Rattle.rules.specs.Base.{Got, got, refused, ◌>>=◌, bounded, all, sum_of}
 use Rattle.rules.specs.Rounds.{Step, bind, split, done, stuck, State, trySatisfy, limited, perform, sizeState, depthState}
 use Rattle.rules.specs.Trees.{Ty, opened, basic, dim, fn, struct, list, Con, Binding, ◌≔◌, depth, depthCon, sizeCon}
 use Rattle.rules.specs.declared.Refusal.TheVariants.{TooLarge}
@@ -11,6 +11,7 @@ use Rattle.rules.specs.Replacing.{bindings}
 use Rattle.solve_step.specs.Stepped.{Stepped}
 use Rattle.solve_step.specs.declared.Step as code
 use Rattle.types.specs.declared.Bindings.{Bindings}
+use Rattle.types.specs.declared.Constraint.{Constraint}
 use Rattle.types.specs.declared.writer.Writer.{Writer}
 use Rattle.types.specs.Binds.{IsBinds}
 use Rattle.types.specs.Sets.{IsCons}
@@ -48,6 +49,21 @@ Limited ends st (Err r) R = (R ≡ refused 8) × (r ≡ TooLarge)
 -- the constraints beside the one that is taken, and the state with new ones behind them
 abbrev pub others : Others → List (Con ℕ)
 others o = o.before.trees.0 ++ o.behind.trees.0
+
+-- a state without a constraint: what stands before it, and what behind it
+pub record Beside (o : Others) (c : Constraint) (before behind : List (Con ℕ)) : Type 0 where
+  pub passed : IsCons o.behind.words.now o.before.at c.at before
+  pub stay : IsCons o.behind.words.now (c.at + sizeCon c.tree.0) o.behind.end behind
+
+pub record Are (o : Others) (cs ds : List (Con ℕ)) (bs : Bindings) : Type 0 where
+  pub before : o.before.trees.0 ≡ cs
+  pub behind : o.behind.trees.0 ≡ ds
+  pub bindings : o.bindings ≡ bs
+
+-- constraints that stand at the front of a list, unless they are too many for a state
+pub record First (d : List ℕ) (end : ℕ) (cs : List (Con ℕ)) : Type 0 where
+  pub many : end ≡ sum_of sizeCon cs
+  pub there : end ≤ 2048 → IsCons d 0 end cs
 
 abbrev pub appends : Others → List (Con ℕ) → Got (Option (State ℕ))
 appends o new = keeps (record { cons = others o ++ new; binds = o.bindings.trees.0 })

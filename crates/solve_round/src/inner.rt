@@ -1,8 +1,11 @@
 //! One round: the first constraint to which a rule applies is taken, and the state after it is written to another buffer, in the order of the rules.
 ghost use Rattle.std.specs.Prelude.{◌≡◌, List, [], ◌∷◌, ℕ, ◌≤◌, length};
+ghost use Rattle.rules.specs.Base.{collect, each};
 ghost use Rattle.rules.specs.Rounds.{State};
 ghost use Rattle.rules.specs.Trees.{Ty, Con, ◌≔◌};
-ghost use Rattle.solve_round.specs.Parts.{appends, BoundTo, Known, keeps, leaf, Limited, Made, Next, Puts, SoundOthers, SoundSet};
+ghost use Rattle.rules.specs.Writing.{writeCon};
+ghost use Rattle.replace.specs.Leaves.{conBy, Leaves};
+ghost use Rattle.solve_round.specs.Parts.{appends, Are, Beside, BoundTo, First, Known, keeps, leaf, Limited, Made, Next, others, Puts, SoundOthers, SoundSet};
 ghost use Rattle.solve_round.specs.Standing.{performed, rebound, Rounds, rounded, SoundState, Standing, stateOf, TakenBy, Took};
 ghost use Rattle.solve_round.specs.States.{stillStuck, written};
 
@@ -16,7 +19,7 @@ use rules::{NAMES, RECORDS, Refusal};
 use solve_step::Step;
 use solve_step::inner::try_satisfy;
 use types::writer::Writer;
-use types::{Bindings, Constraints, Shape, Type};
+use types::{Bindings, Constraint, Constraints, Shape, Type};
 
 /// Is a type a name, a basic type or a dimension? Such a type is nested 1 deep.
 #[tactic(auto, unfolding(crate::specs::Parts::leaf))]
@@ -95,6 +98,15 @@ fn append(rest: Others, new: Constraints, out: &mut Writer) -> Result<Option<End
     }))
 }
 
+/// Writes the other constraints with what is bound put in.
+fn replace_others(by: Substitution, rest: Others, out: &mut Writer) -> Result<(), Refusal>
+    requires { SoundOthers by.names.pool.now by.names.table.now rest }
+    ensures { Leaves (collect writeCon) out.old out.new result (each (conBy by.entry) (others rest.entry)) }
+{
+    replace_constraints(by, rest.before, out)?;
+    replace_constraints(by, rest.behind, out)
+}
+
 /// Writes the other constraints and the bindings with what is bound put in, and the new binding behind them.
 fn rebind(
     by: Substitution,
@@ -110,8 +122,7 @@ fn rebind(
     ensures { (x : ℕ) (t : Ty ℕ) → BoundTo by.entry.names.pool.now by.entry.names.table.now new.entry x t → Puts by.entry x t
         → Next by.entry.names.pool.now by.entry.names.table.now out.old out.new result (rebound by.entry.names rest.entry x t) }
 {
-    replace_constraints(by, rest.before, out)?;
-    replace_constraints(by, rest.behind, out)?;
+    replace_others(by, rest, out)?;
     let constraints = out.at;
     replace_bindings(by, rest.bindings, out)?;
     out.copy_bindings(new);
@@ -148,6 +159,31 @@ fn bind(
     rebind(by, rest, new, out)
 }
 
+/// The same with the first of `new`, up to the record `end`, as the new ones.
+fn append_first(
+    rest: Others,
+    new: &[u32],
+    end: usize,
+    out: &mut Writer,
+) -> Result<Option<Ends>, Refusal>
+    requires first { (cs : List (Con ℕ)) × First new.now end cs }
+    requires new_near { length new.now ≤ 4_000_000_000 }
+    requires front { out.old.at ≡ 0 }
+    requires room { 8192 ≤ length out.old.words.now }
+    ensures { (pool table : List ℕ) (cs : List (Con ℕ)) → First new.now end cs → SoundOthers pool table rest.entry → SoundSet pool table cs
+        → Next pool table out.old out.new result (appends rest.entry cs) }
+{
+    if RECORDS < end {
+        return Err(Refusal::TooLarge);
+    }
+    let constraints = Constraints {
+        words: new,
+        at: 0,
+        end,
+    };
+    append(rest, constraints, out)
+}
+
 /// Does what the step of the constraint that is taken says; what is new stands at the front of `new`.
 fn perform(
     names: NameTable,
@@ -174,25 +210,8 @@ fn perform(
             };
             bind(names, rest, bindings, out)
         }
-        Step::Split(end) => {
-            if RECORDS < end {
-                return Err(Refusal::TooLarge);
-            }
-            let constraints = Constraints {
-                words: new,
-                at: 0,
-                end,
-            };
-            append(rest, constraints, out)
-        }
-        Step::Done => {
-            let constraints = Constraints {
-                words: new,
-                at: 0,
-                end: 0,
-            };
-            append(rest, constraints, out)
-        }
+        Step::Split(end) => append_first(rest, new, end, out),
+        Step::Done => append_first(rest, new, 0, out),
         Step::Stuck => Ok(None),
     }
 }
@@ -225,6 +244,28 @@ fn written(made: Result<Option<Ends>, Refusal>, stuck: usize) -> Result<After, R
     }
 }
 
+/// The state without a constraint that stands behind those before.
+fn without<'a>(state: Others<'a>, c: Constraint) -> Others<'a>
+    requires { (before behind : List (Con ℕ)) × Beside state c before behind }
+    ensures { (before behind : List (Con ℕ)) → Beside state.entry c.entry before behind → Are result before behind state.entry.bindings }
+{
+    let before = Constraints {
+        words: state.behind.words,
+        at: state.before.at,
+        end: c.at,
+    };
+    let behind = Constraints {
+        words: state.behind.words,
+        at: c.end(),
+        end: state.behind.end,
+    };
+    Others {
+        before,
+        behind,
+        bindings: state.bindings,
+    }
+}
+
 /// The first constraint to which a rule applies is taken, of those behind, since none applies to those before, and the next state written. But where the first
 /// of all is done with, the state stays where it is, and begins behind it.
 fn turn(
@@ -244,9 +285,9 @@ fn turn(
     'search: for c in state.behind {
         let step = try_satisfy(names, c, new, 0)?;
         let Step::Stuck = step else {
-            let at = c.end();
             if c.at == state.before.at {
                 if let Step::Done = step {
+                    let at = c.end();
                     let ends = Ends {
                         constraints: state.behind.end,
                         bindings: state.bindings.end,
@@ -258,21 +299,7 @@ fn turn(
                     }));
                 }
             }
-            let before = Constraints {
-                words: state.behind.words,
-                at: state.before.at,
-                end: c.at,
-            };
-            let behind = Constraints {
-                words: state.behind.words,
-                at,
-                end: state.behind.end,
-            };
-            let rest = Others {
-                before,
-                behind,
-                bindings: state.bindings,
-            };
+            let rest = without(state, c);
             let stuck = still_stuck(step, c.at - state.before.at);
             return written(perform(names, rest, step, new, out), stuck);
         };

@@ -46,7 +46,7 @@ fn equal(names: NameTable, left: Type, right: Type, out: &mut Writer) -> Result<
 
 /// What the first rule that fits does with a constraint: its binding or new constraints are written.
 fn satisfy(names: NameTable, c: Constraint, out: &mut Writer) -> Result<Step, Refusal>
-    requires con_good { GoodCon names.pool.now names.table.now c.tree.0 }
+    requires good { GoodCon names.pool.now names.table.now c.tree.0 }
     requires short { sizeCon c.tree.0 ≤ 65_000 }
     requires small { out.old.at < 1_000_000_000 }
     ensures { Applied out.old out.new result (trySatisfy (numbers names.entry.pool.now names.entry.table.now) bounded c.entry.tree.0) }
@@ -66,7 +66,7 @@ pub fn try_satisfy(
     dst: &mut [u32],
     out: usize,
 ) -> Result<Step, Refusal>
-    requires con_good { GoodCon names.pool.now names.table.now c.tree.0 }
+    requires good { GoodCon names.pool.now names.table.now c.tree.0 }
     requires short { sizeCon c.tree.0 ≤ 50_000 }
     requires small { out < 1_000_000_000 }
     ensures { Stepped dst.old dst.new out result (trySatisfy (numbers names.entry.pool.now names.entry.table.now) bounded c.entry.tree.0) }

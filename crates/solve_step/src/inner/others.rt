@@ -87,7 +87,7 @@ fn other_power(factor: Factor, k: Exponent) -> Result<Exponent, Refusal>
 
 /// Factors with the power -j/k for each power j.
 fn put_others(k: Exponent, others: Product, out: &mut Writer) -> Result<(), Refusal>
-    requires k_good { goodExp (expOf k) ≡ true }
+    requires power { goodExp (expOf k) ≡ true }
     requires powers_good { GoodPowers others.factors.0 }
     ensures { FactorsPut out.old out.new result (each (otherSide bounded (expOf k)) others.entry.factors.0) }
 {
@@ -101,7 +101,7 @@ fn put_others(k: Exponent, others: Product, out: &mut Writer) -> Result<(), Refu
 
 /// Binds `x` to the other factors of a product that is to be scalar and whose first factor is `x` to the power k.
 fn solve_for(x: u32, k: Exponent, others: Product, out: &mut Writer) -> Result<Step, Refusal>
-    requires k_good { goodExp (expOf k) ≡ true }
+    requires power { goodExp (expOf k) ≡ true }
     requires powers_good { GoodPowers others.factors.0 }
     requires short { length others.factors.0 ≤ 65_000 }
     ensures { Applied out.old out.new result (boundTo x (each (otherSide bounded (expOf k)) others.entry.factors.0)) }

@@ -7,14 +7,13 @@ use Rattle.types.specs.Binds.{IsBinds}
 use Rattle.std.proofs.lemmas.Result.{err_from_is_err_and}
 use Rattle.types.specs.declared.writer.Writer.{Writer}
 use Rattle.types.specs.Sets.{IsCons}
-use Rattle.solve_round.specs.declared.Others.{Others}
+use Rattle.types.specs.declared.Bindings.{Bindings}
 use Rattle.solve_round.specs.States.{Idle}
 use Rattle.solve_round.proofs.Fronts.{still}
 use Rattle.types.specs.Shapes.{cons_of}
-use Rattle.solve_round.specs.Parts.{SoundSet}
 use Rattle.solve_round.proofs.Limits.{depth-is, size-is}
-use Rattle.solve_round.proofs.Performing.{done-is, nothing-there, set-same, some-rule, stuck-is, took-refused}
-use Rattle.solve_round.proofs.Searching.{start, ended, found, applied, done-first, stops, on}
+use Rattle.solve_round.proofs.Performing.{done-is, nothing-there, some-rule, stuck-is, took-refused}
+use Rattle.solve_round.proofs.Searching.{start, ended, found, applied, is-taken, done-first, stops, on}
 use Rattle.solve_round.proofs.Written.{rounded-as, wrote}
 use Rattle.solve_round.proofs.inner.turn.Goals as goal
 
@@ -35,8 +34,8 @@ search-init c =
 pub overflow_sub-c : goal.overflow_sub-c
 overflow_sub-c c = omega (arith, (found _ _ _ _ _ _ _ _ _ c.search.invariant.2 c.in-Some.ensures.steps).passed.ends)
 
-pub try_satisfy-requires-clause-con_good : goal.try_satisfy-requires-clause-con_good
-try_satisfy-requires-clause-con_good c = (found _ _ _ _ _ _ _ _ _ c.search.invariant.2 c.in-Some.ensures.steps).good
+pub try_satisfy-requires-clause-good : goal.try_satisfy-requires-clause-good
+try_satisfy-requires-clause-good c = (found _ _ _ _ _ _ _ _ _ c.search.invariant.2 c.in-Some.ensures.steps).good
 
 pub try_satisfy-requires-clause-short : goal.try_satisfy-requires-clause-short
 try_satisfy-requires-clause-short c = let f = found _ _ _ _ _ _ _ _ _ c.search.invariant.2 c.in-Some.ensures.steps in omega (arith, f.short)
@@ -57,38 +56,19 @@ search-preserved c = (
   on _ _ _ _ _ _ _ (found _ _ _ _ _ _ _ _ _ c.search.invariant.2 c.in-Some.ensures.steps) (stuck-is c.in_ok-step.ensures c.in-Stuck.is),
 )
 
-pub invariant_of-before : goal.invariant_of-before
-invariant_of-before c = let f = found _ _ _ _ _ _ _ _ _ c.search.invariant.2 c.in-Some.ensures.steps
-    in record { near = c.args.state.behind.near; trees = (f.before, f.passed) }
-
-pub invariant_of-behind : goal.invariant_of-behind
-invariant_of-behind c = let f = found _ _ _ _ _ _ _ _ _ c.search.invariant.2 c.in-Some.ensures.steps
-    in record { near = c.args.state.behind.near; trees = (f.behind, rw c.end-at.ensures f.stay) }
+pub without-rest-requires : goal.without-rest-requires
+without-rest-requires c = let f = found _ _ _ _ _ _ _ _ _ c.search.invariant.2 c.in-Some.ensures.steps
+    in (f.before, f.behind, record { passed = f.passed; stay = f.stay })
 
 pub perform-requires : goal.perform-requires
 perform-requires c =
     let f = found _ _ _ _ _ _ _ _ _ c.search.invariant.2 c.in-Some.ensures.steps in
-    let b = set-same _ _ _ _ f.passed c.rest-in_default-1.given.1.0 in
-    let h = set-same _ _ _ _ (rw c.end-at.ensures f.stay) c.rest-in_default-2-1.given.1.0 in
+    let r = c.without-rest.ensures f.before f.behind (record { passed = f.passed; stay = f.stay }) in
     let i = c.search.invariant.1 in
     let n = c.search.invariant.0 in
     let v = c.try_satisfy.auto.dst in
     record {
-      taken = (
-        c.in-Some.c.tree.0,
-        record {
-          sound = record {
-            before = subst (SoundSet c.args.names.pool.now c.args.names.table.now) (sym b) f.sound_before;
-            behind = subst (SoundSet c.args.names.pool.now c.args.names.table.now) (sym h) f.sound_behind;
-            bindings = c.requires.sound.sound.bindings;
-          };
-          good = f.good;
-          deep = f.deep;
-          short = omega (arith, f.short);
-          was = _;
-          stepped = c.in_ok-step.ensures;
-        },
-      );
+      taken = (_, is-taken _ _ _ _ _ _ _ f c.args.state c.requires.sound.sound.bindings r c.in_ok-step.ensures);
       new_room = omega (arith, v, n, c.requires.new_room);
       new_near = omega (arith, v, n, c.requires.new_near);
       front = ap (λ (w : Writer). w.at) i ∙ c.requires.front;
@@ -131,42 +111,14 @@ returns-in-Done c =
 pub returns-in_default : goal.returns-in_default
 returns-in_default c =
     let f = found _ _ _ _ _ _ _ _ _ c.search.invariant.2 c.in-Some.ensures.steps in
-    let b = set-same _ _ _ _ f.passed c.rest-in_default-1.given.1.0 in
-    let h = set-same _ _ _ _ (rw c.end-at.ensures f.stay) c.rest-in_default-2-1.given.1.0 in
-    let n = c.perform.ensures c.in-Some.c.tree.0 (record {
-      sound = record {
-        before = subst (SoundSet c.args.names.pool.now c.args.names.table.now) (sym b) f.sound_before;
-        behind = subst (SoundSet c.args.names.pool.now c.args.names.table.now) (sym h) f.sound_behind;
-        bindings = c.requires.sound.sound.bindings;
-      };
-      good = f.good;
-      deep = f.deep;
-      short = omega (arith, f.short);
-      was = _;
-      stepped = c.in_ok-step.ensures;
-    }) in
-    let o : Others = record {
-      before = record {
-        words = c.args.state.behind.words;
-        at = c.args.state.before.at;
-        end = c.in-Some.c.at;
-        near = c.rest-in_default-1.given.0;
-        trees = c.rest-in_default-1.given.1.0;
-      };
-      behind = record {
-        words = c.args.state.behind.words;
-        at = c.end-at.result;
-        end = c.args.state.behind.end;
-        near = c.rest-in_default-2-1.given.0;
-        trees = c.rest-in_default-2-1.given.1.0;
-      };
-      bindings = c.args.state.bindings;
-    } in
-    let k : c.in-Some.c.at - c.args.state.before.at ≡ sum_of sizeCon o.before.trees.0 = omega (arith, o.before.trees.1.ends) in
+    let r = c.without-rest.ensures f.before f.behind (record { passed = f.passed; stay = f.stay }) in
+    let n = c.perform.ensures _ (is-taken _ _ _ _ _ _ _ f c.args.state c.requires.sound.sound.bindings r c.in_ok-step.ensures) in
+    let k : c.in-Some.c.at - c.args.state.before.at ≡ sum_of sizeCon c.without-rest.result.before.trees.0 = omega (arith, f.passed.ends, ap (sum_of sizeCon) r.before) in
     rw (c.written.ensures, c.still_stuck-stuck.ensures) (record {
       same = n.same ∙ ap (λ (w : Writer). w.words.ghost_name) c.search.invariant.1;
-      rounded = rounded-as (applied _ _ _ _ _ _ _ f o b h refl (some-rule c.in_ok-step.ensures c.in_default.not-Stuck))
-          (wrote n.turned (λ st ends e held. still _ _ o (subst (Idle c.args.names.pool.now c.args.names.table.now) (sym b) f.idle) k _ st ends held _ _ _ e _
+      rounded = rounded-as (applied _ _ _ _ _ _ _ f c.without-rest.result r.before r.behind (ap (λ (b : Bindings). b.trees.0) r.bindings)
+          (some-rule c.in_ok-step.ensures c.in_default.not-Stuck))
+          (wrote n.turned (λ st ends e held. still _ _ c.without-rest.result (subst (Idle c.args.names.pool.now c.args.names.table.now) (sym r.before) f.idle) k _ st ends held _ _ _ e _
           c.in_ok-step.ensures));
     })
 

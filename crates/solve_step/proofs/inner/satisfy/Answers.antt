@@ -9,13 +9,13 @@ use Rattle.records.specs.Good.{numbers}
 use Rattle.solve_step.proofs.inner.satisfy.Goals as goal
 
 pub equal-requires-clause-left_good : goal.equal-requires-clause-left_good
-equal-requires-clause-left_good c = left-good c.args.names.pool.now c.args.names.table.now _ _ c.in-Equal.ensures c.requires.con_good
+equal-requires-clause-left_good c = left-good c.args.names.pool.now c.args.names.table.now _ _ c.in-Equal.ensures c.requires.good
 
 pub equal-requires-clause-right_good : goal.equal-requires-clause-right_good
-equal-requires-clause-right_good c = right-good c.args.names.pool.now c.args.names.table.now _ _ c.in-Equal.ensures c.requires.con_good
+equal-requires-clause-right_good c = right-good c.args.names.pool.now c.args.names.table.now _ _ c.in-Equal.ensures c.requires.good
 
 pub equal_scalar-requires-clause-powers_good : goal.equal_scalar-requires-clause-powers_good
-equal_scalar-requires-clause-powers_good c = powers-good c.args.names.pool.now c.args.names.table.now _ c.in-IsScalar.ensures c.requires.con_good
+equal_scalar-requires-clause-powers_good c = powers-good c.args.names.pool.now c.args.names.table.now _ c.in-IsScalar.ensures c.requires.good
 
 pub returns-in-IsDimension : goal.returns-in-IsDimension
 unfolding trySatisfy

@@ -14,5 +14,5 @@ returns c =
     let d = a.c.tree.0 in
     let small : a.out ≤ 1_000_000_000 = omega (arith, c.requires.small) in
     let back : c.dst-1.given.0 ≡ c.satisfy.new.out.words.now = search rules in
-    let all = stepped _ _ _ small (λ s e. step-short pool table d s c.requires.con_good c.requires.short e) c.satisfy.ensures in
+    let all = stepped _ _ _ small (λ s e. step-short pool table d s c.requires.good c.requires.short e) c.satisfy.ensures in
     subst (λ (b : List ℕ). Stepped a.dst.now b a.out c.satisfy.result (trySatisfy (numbers pool table) bounded d)) (sym back) all
