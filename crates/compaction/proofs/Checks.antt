@@ -146,10 +146,6 @@ whole-records words from n h = let e = length-take-le (from + n * 4 - from) (dro
 
 -- ══ The whole row of checks: 10, 8, 1 ══
 
-stops : (a : Bool) (m : Got (Unit {0})) → (need (a && false) 10 >>= λ _. m) ≡ refused 10
-stops true m = refl
-stops false m = refl
-
 module _ (pool table words lengths : List ℕ) where
   pub short-pool : length pool < 8192 → refused 10 ≡ compactChecks pool table words lengths
   unfolding compactChecks lentTable
@@ -157,7 +153,7 @@ module _ (pool table words lengths : List ℕ) where
 
   pub short-table : length table < 257 → refused 10 ≡ compactChecks pool table words lengths
   unfolding compactChecks lentTable
-  short-table h = sym (rw (lt-leb 257 (length table) h) (stops (leb 8192 (length pool)) _))
+  short-table h = sym (rw (lt-leb 257 (length table) h, and-false (leb 8192 (length pool))))
 
   module _ (p : 8192 ≤ length pool) (t : 257 ≤ length table) (b : Bool) (e : b ≡ (leb (length lengths) 64 && all (λ n. leb n 2048) lengths)) where
     pub too_large : not b ≡ true → refused 8 ≡ compactChecks pool table words lengths

@@ -6,10 +6,10 @@ use mathlib.Core.List.{List, [], ◌∷◌, ◌++◌, append_assoc, append-nil}
 use Prim.Native.Nat.{ℕ, suc, ◌+◌, ◌-◌, ◌≤◌, ◌<◌}
 use Rattle.std.proofs.Math.ListN.{length, drop, get_or, set, replicate, length-append, length-replicate}
 use Rattle.std.proofs.Math.Seq.{sets, length-sets, slice, slice_empty}
-use Rattle.std.proofs.lemmas.List.Edits.{sets-eq}
 use Rattle.rules.specs.Names.{Bytes, table_of, names_of, held, used}
 use Rattle.rules.specs.Base.{collect}
 use Rattle.rules.specs.Calls.{over}
+use Rattle.laws.specs.Answers.{over-is}
 use Rattle.laws.specs.NameTable.{
   Good,
   good-laid,
@@ -61,10 +61,6 @@ slice-part : (f t : ℕ) (l : List ℕ) → f ≤ t → f ≤ length l → slice
 slice-part f t l h k =
     let e : t ≡ f + (t - f) = omega arith in
     ap (λ (n : ℕ). drop f (take n l)) e ∙ ap (drop f) (take-add f (t - f) l) ∙ drop_at (take f l) (take (t - f) (drop f l)) f (length-take-le f l k)
-
-over-is : (ws b : List ℕ) → length ws ≤ length b → sets b 0 ws ≡ over ws b
-unfolding over
-over-is ws b h = sets-eq ws b 0 (omega arith) ∙ ap (λ (k : ℕ). ws ++ drop k b) (zero-add (length ws))
 
 -- ══ One name more ══
 

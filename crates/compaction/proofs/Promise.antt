@@ -16,6 +16,7 @@ use Rattle.rules.specs.Writing.{kindIn}
 use Rattle.laws.specs.Lists.{Every, clash}
 use Rattle.laws.specs.NameTable.{Good, good-given, good-laid, length-names, count-is}
 use Rattle.laws.specs.ReadLists.{Words}
+use Rattle.theorems_offices.proofs.Batches.{four-more}
 use Rattle.theorems_offices.proofs.Offices.{numbering}
 use Rattle.rules.specs.Compaction.{occurs, keeps, renumbered, joined, eachGiven, compactChecks, compactCall, compactIf, squeezed}
 use Rattle.compaction.specs.Theorems.{goingOn, Promised}
@@ -25,9 +26,6 @@ use Rattle.compaction.proofs.Kept.{after-names, after-good, after-used, poolAfte
 use Rattle.compaction.proofs.Alike.{alike, kept-words}
 
 -- ══ Sets are cut at whole records ══
-
-pub four-more : (n : ℕ) → suc n * 4 ≡ suc (suc (suc (suc (n * 4))))
-four-more n = omega arith
 
 module _ (p : ℕ → Bool) where
   take-renumbered : (n : ℕ) (ws : List ℕ) → take (n * 4) (renumbered p ws) ≡ renumbered p (take (n * 4) ws)

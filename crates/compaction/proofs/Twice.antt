@@ -42,7 +42,8 @@ use Rattle.compaction.proofs.Checks.{checks-good, checks-each, checks-row, check
 use Rattle.compaction.proofs.HeldNames.{HeldWords, set-held}
 use Rattle.compaction.proofs.Kept.{rank, new-rank, kept-get, kept, after-names, after-good, after-used, poolAfter, tableAfter}
 use Rattle.compaction.proofs.Alike.{KeptWords, kept-words}
-use Rattle.compaction.proofs.Promise.{cut-renumbered, sets-alike, four-more, every_take, every_drop, both-given}
+use Rattle.theorems_offices.proofs.Batches.{four-more}
+use Rattle.compaction.proofs.Promise.{cut-renumbered, sets-alike, every_take, every_drop, both-given}
 
 -- ══ Where every name is kept, nothing moves ══
 

@@ -114,7 +114,7 @@ pub fn renumber(s: &mut [u32], m: &[bool; NAMES])
 // Moves the bytes from `from` up to `to` forward to `out`: each is read before it can be written over.
 fn shift(pool: &mut [u8], from: usize, to: usize, out: usize)
     requires forward { out ≤ from }
-    requires turned { from ≤ to }
+    requires order { from ≤ to }
     requires within { to ≤ length pool.old }
     ensures { pool.new ≡ sets pool.old out (slice from to pool.old) }
 {

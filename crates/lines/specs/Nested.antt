@@ -53,11 +53,11 @@ use Rattle.rules.specs.Steps.{
   stepGiven,
   lineGiven,
 }
+use Rattle.laws.specs.Given.{or-some}
 use Rattle.laws.specs.Depth.{depth-read}
 use Rattle.laws.specs.Lists.{Every, every_append, all-every, bound-step, each-came}
 use Rattle.laws.specs.Nesting.{Within}
 use Rattle.laws.specs.RuleCases.{and-then}
-use Rattle.theorems_lines.proofs.Read.{is-there}
 
 -- ══ What steps issue ══
 
@@ -130,7 +130,7 @@ module _ (t : Table) (rs : List Rec) (lines : List ℕ) where
       let a = bound-step (orRefuse 1 (and_then (readTy 64 (drop place rs)) (λ r. some r.0))) _ ty e in
       let b = bound-step (need (goodTy (numbersOf t) (is_held t) 0 a.0) 1) _ ty a.2 in
       let z : a.0 ≡ ty = cc b.2 in
-      let r = and-then (readTy 64 (drop place rs)) (λ r. some r.0) a.0 (is-there 1 _ a.0 a.1) in
+      let r = and-then (readTy 64 (drop place rs)) (λ r. some r.0) a.0 (or-some 1 _ a.0 a.1) in
       let y : r.0.0 ≡ a.0 = cc r.2 in
       subst (λ (u : Ty ℕ). depth u ≤ 64) z (subst (λ (u : Ty ℕ). depth u ≤ 64) y ((depth-read 64 (drop place rs)).holds r.0.0 r.0.1 r.1))
 

@@ -9,13 +9,11 @@ use Prim.Native.Nat.{ℕ, zero, suc, ◌+◌, ◌*◌, ◌-◌, ◌/◌, ◌%◌
 use Rattle.std.proofs.Math.Numerals.{add-two, add-three}
 use Rattle.std.proofs.Math.ListN.{length, length-append}
 use Rattle.std.proofs.Math.Seq.{sets, slice, slice-cons}
-use Rattle.std.proofs.lemmas.List.Edits.{sets-eq}
 use Rattle.rules.specs.Base.{and_then, only_if}
 use Rattle.rules.specs.Trees.{Con, sizeCon}
 use Rattle.rules.specs.Names.{table_of}
 use Rattle.rules.specs.Writing.{Rec, rec, words, writeCon}
 use Rattle.rules.specs.Reading.{readCon}
-use Rattle.rules.specs.Calls.{over}
 use Rattle.laws.specs.Size.{size-con, words_append, words-length}
 use Rattle.records.specs.Found.{Words32}
 use Rattle.records.specs.Given.{con-reader}
@@ -117,11 +115,6 @@ bytes-step v d d' i o t lt le e h =
     let n : length (bytes_of w) ≡ 4 = bytes-length w in
     rw (add-one i, e) (ap (λ (k : ℕ). sets (sets d o (bytes_of w)) (o + k) (bytes_of (slice (suc i) t v))) (sym n)
     ∙ sym (sets-append (bytes_of w) (bytes_of (slice (suc i) t v)) d o) ∙ ap (sets d o) (sym q) ∙ h)
-
--- from the front, where it fits
-pub over-is : (ws b : List ℕ) → length ws ≤ length b → sets b 0 ws ≡ over ws b
-unfolding over
-over-is ws b h = sets-eq ws b 0 (omega arith) ∙ ap (λ (k : ℕ). ws ++ drop k b) (zero-add (length ws))
 
 -- ══ The torn record ══
 

@@ -91,7 +91,7 @@ fn put_word(dst: &mut [u8], i: usize, w: u32)
 
 // Writes the words from b up to e.
 fn put_words(s: &[u32], b: usize, e: usize, dst: &mut [u8], out: usize)
-    requires turned { b ≤ e }
+    requires order { b ≤ e }
     requires within { e ≤ length s.now }
     requires few { length s.now ≤ 8196 }
     requires place { out ≤ 32768 }

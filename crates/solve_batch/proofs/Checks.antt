@@ -1,5 +1,6 @@
 -- The checks of a batch, from the lengths of what is lent.
 use Rattle.std.specs.Prelude.{Ok, ◌≡◌, refl, Bool, true, false, not, ◌&&◌, List, ℕ, ◌*◌, ◌≤◌, ◌<◌, leb, eqb, length, replicate}
+use Rattle.std.proofs.Math.Bool.{and-false}
 use Rattle.std.proofs.Math.Path.{sym, ap}
 use Rattle.std.proofs.Common.{◌∙◌}
 use borrow.Author.Tests.{le-leb, lt-leb, leb-true, eqb-true}
@@ -11,11 +12,6 @@ use Rattle.rules.specs.Batches.{batchLent, batchFits, batchCall, eachSolved, wri
 use Rattle.solve_batch.specs.Told.{batchAs}
 use Rattle.solve_batch.specs.Steps.{Begun, Finished}
 
--- one test that fails is enough
-second : (a : Bool) (m : Got (Unit {0})) → (need (a && false) 10 >>= λ _. m) ≡ refused 10
-second true m = refl
-second false m = refl
-
 module _ (pool table lengths result answers work : List ℕ) where
   pub short-pool : length pool < 8192 → need false 10 ≡ batchLent pool table lengths result answers work
   unfolding batchLent lentTable
@@ -23,7 +19,7 @@ module _ (pool table lengths result answers work : List ℕ) where
 
   pub short-table : length table < 257 → need false 10 ≡ batchLent pool table lengths result answers work
   unfolding batchLent lentTable
-  short-table h = sym (rw (lt-leb 257 (length table) h) (second (leb 8192 (length pool)) _))
+  short-table h = sym (rw (lt-leb 257 (length table) h, and-false (leb 8192 (length pool))))
 
   module _ (p : 8192 ≤ length pool) (t : 257 ≤ length table) where
     pub short-result : length result < length lengths * 8192 → need false 10 ≡ batchLent pool table lengths result answers work

@@ -12,7 +12,7 @@ use Rattle.std.proofs.lemmas.List.{drop-append-le}
 use Rattle.rules.specs.Base.{Got, got, refused, collect, sum_of}
 use Rattle.rules.specs.Calls.{Solved, solvedOf, solvedWords, over, resultAfter}
 use Rattle.rules.specs.Solving.{Answer}
-use Rattle.laws.specs.Answers.{words_of, manyOf, answer-long, four-long}
+use Rattle.laws.specs.Answers.{words_of, manyOf, over-is, answer-long, four-long}
 use Rattle.records.specs.Stores.{sets-append}
 use Rattle.rules.specs.Batches.{cutSets, answeredWords, fourWords}
 
@@ -54,11 +54,6 @@ finished-as f g words lengths result result' answers answers' r e h =
 
 pub rest_sum : (lengths : List ℕ) (i : ℕ) → i < length lengths → sum_of (λ n. n) (drop i lengths) ≡ get_or lengths i 0 + sum_of (λ n. n) (drop (i + 1) lengths)
 rest_sum lengths i more = rw (add-one i) (ap (sum_of (λ n. n)) (drop-cons lengths i 0 more))
-
--- words at the front of a buffer that has room for them
-over-is : (ws b : List ℕ) → length ws ≤ length b → sets b 0 ws ≡ over ws b
-unfolding over
-over-is ws b h = sets-eq ws b 0 (omega arith) ∙ ap (λ (k : ℕ). ws ++ drop k b) (zero-add (length ws))
 
 -- ══ One answer ══
 

@@ -33,11 +33,11 @@ use Rattle.rules.specs.Solving.{Answer, accepted, remaining, stopped, boundOf, f
 use Rattle.rules.specs.Choices.{Fixed, Choice, Rational}
 use Rattle.laws.specs.Order.{Lawful, Tells}
 use Rattle.laws.specs.ByteOrder.{atom-lawful}
-use Rattle.laws.specs.Lists.{true≢false, some≢none, not-false, is-yes, All, all_nil, all_cons, in_head}
+use Rattle.laws.specs.Lists.{true≢false, some≢none, not-false, is-yes, All, in_head, keep-none}
 use Rattle.laws.specs.Fractions.{Lowest}
 use Rattle.laws.specs.Exact.{OfLimits}
 use Rattle.laws.specs.GoodProducts.{goodAtom, atom-tells}
-use Rattle.laws.specs.RuleCases.{contained}
+use Rattle.laws.specs.RuleCases.{contained, or-none}
 use Rattle.laws.specs.Turns.{turn}
 use Rattle.theorems_completeness.specs.Claims.{◌⇔◌}
 use Rattle.theorems_completeness.proofs.Chosen.{measured, measured-lowest, fixed_of, first-worth}
@@ -162,17 +162,13 @@ only-none : {A : Type 0} (b : Bool) (a : A) → only_if b a ≡ none → b ≡ f
 only-none true a e = absurd (some≢none e)
 only-none false a e = refl
 
-both-none : {A : Type 0} (a b : Option A) → (a or_else b) ≡ none → (a ≡ none) × (b ≡ none)
-both-none none b e = (refl, e)
-both-none (some a) b e = absurd (some≢none e)
-
 module _ {N : Type 0} (ν : Names N) where
   -- of two variables one is bound, or they are the same
   variables-move : (x y : N) → firstRules ν (opened (var x)) (opened (var y)) ≡ none → ⊥
   unfolding firstRules bindTo opens
   variables-move x y e =
-      let a = both-none (only_if (is_yes (ty-dec ν (opened (var x)) (opened (var y)))) done) _ e in
-      let b = both-none (bindTo ν (some x) (opened (var y))) _ a.1 in
+      let a = or-none (only_if (is_yes (ty-dec ν (opened (var x)) (opened (var y)))) done) _ e in
+      let b = or-none (bindTo ν (some x) (opened (var y))) _ a.1 in
       let n = only-none (is_yes (ty-dec ν (opened (var x)) (opened (var y)))) done a.0 in
       let c = not-false (contains ν x (opened (var y))) (only-none (not (contains ν x (opened (var y)))) (bind x (opened (var y))) b.0) in
       let q : var x ≡ var y = Memᴰ.eq_of_singleton (contained ν x (opened (var y)) c) in
@@ -224,15 +220,6 @@ kept-in p (x ∷ xs) a m = go (p x) refl (kept-in p xs a)
         more (inr n) = let s = r n in (Memᴰ.tail s.0, s.1)
     go false i r = let s = r (rw (i, keep) at m) in (Memᴰ.tail s.0, s.1)
 
-none-kept : {A : Type 0} (p : A → Bool) (xs : List A) → keep p xs ≡ [] → All (λ a. p a ≡ false) xs
-unfolding keep
-none-kept p [] e = all_nil (λ a. p a ≡ false)
-none-kept p (x ∷ xs) e = go (p x) refl (none-kept p xs)
-  where
-    go : (b : Bool) → p x ≡ b → (keep p xs ≡ [] → All (λ a. p a ≡ false) xs) → All (λ a. p a ≡ false) (x ∷ xs)
-    go true i r = let z : x ∷ keep p xs ≡ [] = rw (i, keep) at e in absurd (cons≢nil z)
-    go false i r = all_cons (λ a. p a ≡ false) i (r (rw (i, keep) at e))
-
 -- a bound is always true
 bound-true : {N : Type 0} (g : Atom N → Exp) (c : Con N) → is_none (boundOf c) ≡ false → RightWide g c
 unfolding boundOf
@@ -273,7 +260,7 @@ module _ {N : Type 0} (ν : Names N) (held : N → Bool) (w : Bool) (ord : Lawfu
       stays = none_moves ν s.cons (round-none ν s e)
 
       go : (l : List (Con N)) → keep (λ c. is_none (boundOf c)) s.cons ≡ l → Outcome s (finished ν l k s)
-      go [] i = settled s _ k refl h (λ g c m. bound-true g c (none-kept (λ c. is_none (boundOf c)) s.cons i c m)) (λ g low. (λ r. r, λ r. r))
+      go [] i = settled s _ k refl h (λ g c m. bound-true g c (keep-none (λ c. is_none (boundOf c)) s.cons i c m)) (λ g low. (λ r. r, λ r. r))
       go (c ∷ cs) i =
           refuted (c ∷ cs) k refl (λ d r f.
           let m : Memᴰ c (keep (λ c. is_none (boundOf c)) s.cons) = rw i in_head in

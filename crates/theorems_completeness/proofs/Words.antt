@@ -40,7 +40,7 @@ use Rattle.laws.specs.Refusing.{Refuses, given as fine, onward}
 use Rattle.laws.specs.Exact.{OfLimits}
 use Rattle.laws.specs.ByteOrder.{numbered-lawful}
 use Rattle.laws.specs.Lists.{got≢refused, and_left, bound-step}
-use Rattle.theorems_completeness.specs.Claims.{◌⇔◌, DimensionSet, AllChoices, Excepted, Unsolved, Complete, WideSet, AllWideChoices, WideComplete}
+use Rattle.theorems_completeness.specs.Claims.{◌⇔◌, DimensionSet, AllChoices, Excepted, Unsolved, Told, Complete, WideSet, AllWideChoices, WideComplete}
 use Rattle.theorems_completeness.proofs.Trees.{
   only-limits,
   none_left,
@@ -73,15 +73,6 @@ pub record Known (pool table set : List ℕ) (cs : List (Con ℕ)) (C : Type 0) 
   pub every : Checked pool table set cs → (bs : List (Binding ℕ)) (ns : List ℕ) (k : ℕ)
       → solve (numbersOf (table_of pool table)) bounded cs ≡ accepted bs ns k → All bs
   pub some : Checked pool table set cs → (bs : List (Binding ℕ)) → All bs → C
-
--- what was written, and what it says
-pub record Put (pool table set result work : List ℕ) (All : List (Binding ℕ) → Type 0) (records bounds : ℕ) : Type 0 where
-  pub bs : List (Binding ℕ)
-  pub ns : List ℕ
-  pub written : (solveCall pool table set result work).result ≡ over (words (collect writeBinding bs ++ map (λ n. writeBound (var n)) ns)) result
-  pub binding-records : sum_of sizeBinding bs ≡ records
-  pub bound-records : length ns ≡ bounds
-  pub choices : All bs
 
 module _ (pool table set : List ℕ) (cs : List (Con ℕ)) (read : setGiven (table_of pool table) set ≡ got cs) where
   abbrev t : Table
@@ -180,11 +171,11 @@ module _ (pool table set : List ℕ) (cs : List (Con ℕ)) (read : setGiven (tab
           go (got (remaining rs k)) i f = let p = passed (remaining rs k) i in (λ u. known.none p.checked rs k (sym p.is), λ n. tt)
           go (got (stopped n k)) i f = absurd (f n k refl (stopped-excepted n k i))
 
-      pub accepts : (r b k : ℕ) → (solveCall pool table set result work).answer ≡ solved r b k → Put pool table set result work All r b
+      pub accepts : (r b k : ℕ) → (solveCall pool table set result work).answer ≡ solved r b k → Told pool table set result work All r b
       unfolding solveCall solvedOf solvedWords resultAfter
       accepts r b k e = go call refl
         where
-          go : (m : Got (Answer ℕ)) → call ≡ m → Put pool table set result work All r b
+          go : (m : Got (Answer ℕ)) → call ≡ m → Told pool table set result work All r b
           go (refused n) i = let z : refusedAfter n 0 ≡ solved r b k = rw i at e in let y : ◌≡◌ {A = ℕ} 0 1 = cc in absurd (omega arith)
           go (got (remaining rs j)) i = let z : unsolved (sum_of sizeCon rs) j ≡ solved r b k = rw i at e in let y : ◌≡◌ {A = ℕ} 0 1 = cc
               in absurd (omega arith)
@@ -213,8 +204,7 @@ module _ (pool table set : List ℕ) (cs : List (Con ℕ)) (read : setGiven (tab
     complete = record {
       refusals = refusals pool table set cs read result work _ _ of-dimensions;
       five = five pool table set cs read result work _ _ of-dimensions;
-      accepts = λ r b k e. let p = accepts pool table set cs read result work _ _ of-dimensions r b k e in
-          record { bs = p.bs; ns = p.ns; written = p.written; binding-records = p.binding-records; bound-records = p.bound-records; choices = p.choices };
+      accepts = accepts pool table set cs read result work _ _ of-dimensions;
     }
 
   module _ (sides : all wide cs ≡ true) (result work : List ℕ) where
@@ -233,6 +223,5 @@ module _ (pool table set : List ℕ) (cs : List (Con ℕ)) (read : setGiven (tab
     wide-complete = record {
       refusals = refusals pool table set cs read result work _ _ of-sides;
       five = five pool table set cs read result work _ _ of-sides;
-      accepts = λ r b k e. let p = accepts pool table set cs read result work _ _ of-sides r b k e in
-          record { bs = p.bs; ns = p.ns; written = p.written; binding-records = p.binding-records; bound-records = p.bound-records; choices = p.choices };
+      accepts = accepts pool table set cs read result work _ _ of-sides;
     }

@@ -77,14 +77,14 @@ Unsolved (solved b n k) = ⊥
 Unsolved (unsolved r k) = Unit {0}
 Unsolved (refusedAfter n k) = ⊥
 
--- the bindings that were written at the front of the result buffer, and what they say
-pub record Told (pool table set result work : List ℕ) (cs : List (Con ℕ)) (records bounds : ℕ) : Type 0 where
+-- the bindings that were written at the front of the result buffer, and what they say of choices
+pub record Told (pool table set result work : List ℕ) (Choices : List (Binding ℕ) → Type 0) (records bounds : ℕ) : Type 0 where
   pub bs : List (Binding ℕ)
   pub ns : List ℕ
   pub written : (solveCall pool table set result work).result ≡ over (words (collect writeBinding bs ++ map (λ n. writeBound (var n)) ns)) result
   pub binding-records : sum_of sizeBinding bs ≡ records
   pub bound-records : length ns ≡ bounds
-  pub choices : AllChoices (numbersOf (table_of pool table)) cs bs
+  pub choices : Choices bs
 
 -- what the call answers, whatever is lent, for words that are read as the constraints cs
 pub record Complete (pool table set result work : List ℕ) (cs : List (Con ℕ)) : Type 0 where
@@ -95,7 +95,7 @@ pub record Complete (pool table set result work : List ℕ) (cs : List (Con ℕ)
       → Unsolved (solveCall pool table set result work).answer ⇔ (Choosing (numbersOf (table_of pool table)).same cs → ⊥)
   -- (b), (c)
   pub accepts : (records bounds rounds : ℕ) → (solveCall pool table set result work).answer ≡ solved records bounds rounds
-      → Told pool table set result work cs records bounds
+      → Told pool table set result work (AllChoices (numbersOf (table_of pool table)) cs) records bounds
 
 -- ══ Wide sets: sides may be variables, and is-dimension may stand in them ══
 
@@ -120,15 +120,6 @@ pub record AllWideChoices {N : Type 0} (ν : Names N) (cs : List (Con N)) (bs : 
   -- so that completing it gives it back
   pub comes-so : (c : Choice N) → Rational c → MakesAllWideTrue ν.same c cs → (x : N) → Same ν.same (c x) (completedWide ν.same bs c x)
 
--- as `Told`
-pub record WideTold (pool table set result work : List ℕ) (cs : List (Con ℕ)) (records bounds : ℕ) : Type 0 where
-  pub bs : List (Binding ℕ)
-  pub ns : List ℕ
-  pub written : (solveCall pool table set result work).result ≡ over (words (collect writeBinding bs ++ map (λ n. writeBound (var n)) ns)) result
-  pub binding-records : sum_of sizeBinding bs ≡ records
-  pub bound-records : length ns ≡ bounds
-  pub choices : AllWideChoices (numbersOf (table_of pool table)) cs bs
-
 -- as `Complete`
 pub record WideComplete (pool table set result work : List ℕ) (cs : List (Con ℕ)) : Type 0 where
   -- it refuses with no other number; 6 can't come
@@ -137,4 +128,4 @@ pub record WideComplete (pool table set result work : List ℕ) (cs : List (Con 
   pub five : ((n k : ℕ) → (solveCall pool table set result work).answer ≡ refusedAfter n k → Excepted n → ⊥)
       → Unsolved (solveCall pool table set result work).answer ⇔ (ChoosingWide (numbersOf (table_of pool table)).same cs → ⊥)
   pub accepts : (records bounds rounds : ℕ) → (solveCall pool table set result work).answer ≡ solved records bounds rounds
-      → WideTold pool table set result work cs records bounds
+      → Told pool table set result work (AllWideChoices (numbersOf (table_of pool table)) cs) records bounds

@@ -20,6 +20,7 @@ use Rattle.rules.specs.Meaning.{Solves}
 use Rattle.rules.specs.WellFormed.{goodCon, goodBinding}
 use Rattle.laws.specs.ByteOrder.{atom-lawful}
 use Rattle.laws.specs.Contents.{apart-names}
+use Rattle.laws.specs.Given.{or-some}
 use Rattle.laws.specs.Lists.{some≢none, All, all_nil, all_cons, all_append, in_head, Every, all-every, map-to, bound-step, is-yes, is-no, yes-is, no-is, is_all}
 use Rattle.theorems_soundness.specs.Claims.{Ordered, Once, YesOrLimits}
 use Rattle.theorems_soundness.proofs.Soundness.{solved-form, yes-solves}
@@ -56,7 +57,6 @@ use Rattle.theorems_lines.proofs.Matching.{Matches, Fact, closed-reads}
 use Rattle.theorems_lines.proofs.Stacks.{Ready, runs, last-from}
 use Rattle.theorems_lines.proofs.Carried.{carries}
 use Rattle.theorems_lines.proofs.Words.{set-settled, agreed-is}
-use Rattle.theorems_lines.proofs.Read.{is-there}
 
 -- ══ No parameter stands in the set of a closed line ══
 
@@ -334,7 +334,7 @@ module _ {N : Type 0} (ν : Names N) (held : N → Bool) (ord : Ordered ν held)
         let g = both-got settled-alike c.0 c.1 in
         let y = agreed-is (judge ν bounded c.0.0 c.0.1 cs) d.0 d.1 in
         let r = subst (λ (bs : List (Binding N)). replaceTy ν bounded (bindings ν bs) (its b.0) ≡ got ty) (sym z) b.2 in
-        let t = last-type c.0 g.0 c.1 g.1 g.2 y complete long b.0 ty (is-there 1 (last_of (firsts ps) ss) b.0 b.1) r in
+        let t = last-type c.0 g.0 c.1 g.1 g.2 y complete long b.0 ty (or-some 1 (last_of (firsts ps) ss) b.0 b.1) r in
         settles g.0 t.0 ty g.1 t.1 t.2 (judged-alike c.0 g.0 c.1 g.1 g.2 y)
 
     -- a refusal of the solver is the same

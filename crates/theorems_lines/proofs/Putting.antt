@@ -15,7 +15,8 @@ use Rattle.rules.specs.Replacing.{Look, asProduct, replaceTy, replaceDim, replac
 use Rattle.rules.specs.Rules.{rules}
 use Rattle.laws.specs.Order.{Lawful, self, after}
 use Rattle.laws.specs.Fractions.{Lowest, one-lowest, plus-neg}
-use Rattle.laws.specs.Lists.{All, all_cons, in_head, is-yes, is-no, all-every, bound-step, allow-same}
+use Rattle.laws.specs.Sorted.{merge-nil}
+use Rattle.laws.specs.Lists.{alone, All, all_cons, in_head, is-yes, is-no, all-every, bound-step, allow-same}
 use Rattle.laws.specs.ExactProducts.{mergeE, raiseE, multiply-value, raise-value}
 use Rattle.laws.specs.Occurs.{each_opens, opens-each, merge_on, raise-on, as-product-is}
 use Rattle.laws.specs.Untouched.{Unbound, ty_same, factors-same}
@@ -48,10 +49,6 @@ nought-ranged : ranged bounded nought ≡ got nought
 unfolding rules
 nought-ranged = refl
 
-same-got : {A : Type 0} (m : Got A) → (m >>= λ a. got a) ≡ m
-same-got (got a) = refl
-same-got (refused n) = refl
-
 open-shut : {N : Type 0} (o : Open N) → Shut (opened o) → ⊥
 unfolding opens
 open-shut o h = h o in_head
@@ -63,18 +60,13 @@ same-order ν law a b e = ap (ν.order a) (sym e) ∙ self law (base a)
 module _ {N : Type 0} (ν : Names N) (law : Lawful (orderAtom ν)) where
   -- ══ A factor that is taken out ══
 
-  merge-nil : (p : Product N) → merge ν bounded p [] ≡ got p
-  unfolding merge mergeOne
-  merge-nil [] = refl
-  merge-nil (a ↑ e ∷ p) = refl
-
   cancels : (e : Exp) → Lowest e → sum bounded e (neg e) ≡ got nought
   unfolding sum
   cancels e low = ap (ranged bounded) (plus-neg e low) ∙ nought-ranged
 
   merged-out : (a : Atom N) (i : Exp) (p : Product N) → Lowest i → merge ν bounded (a ↑ i ∷ p) (a ↑ neg i ∷ []) ≡ got p
   unfolding merge mergeOne
-  merged-out a i p low = rw (self law a, mergeOne) (rw (cancels i low, merge-nil p))
+  merged-out a i p low = rw (self law a, mergeOne) (rw (cancels i low, merge-nil ν bounded p))
 
   left_out : (a : Atom N) (i : Exp) (p : Product N) → Lowest i → divide ν bounded (a ↑ i ∷ p) (a ↑ i ∷ []) ≡ within bounded (length p) 64 p
   unfolding divide multiply inverse
@@ -159,13 +151,13 @@ module _ {N : Type 0} (ν : Names N) (law : Lawful (orderAtom ν)) where
             ≡ (m >>= λ more. multiply ν bounded (free (var y) ↑ j ∷ []) more)
         unfolding replaceFactors
         second-done d (refused n) = refl
-        second-done d (got more) = rw (hy, replaceFactors) (same-got (multiply ν bounded (free (var y) ↑ j ∷ []) more))
+        second-done d (got more) = rw (hy, replaceFactors) (alone (multiply ν bounded (free (var y) ↑ j ∷ []) more))
 
         all_done : (m : Got (Product N))
             → (m >>= λ more. multiply ν bounded (free (var y) ↑ j ∷ []) more >>= λ acc. got acc)
             ≡ (m >>= λ more. multiply ν bounded (free (var y) ↑ j ∷ []) more)
         all_done (refused n) = refl
-        all_done (got more) = same-got (multiply ν bounded (free (var y) ↑ j ∷ []) more)
+        all_done (got more) = alone (multiply ν bounded (free (var y) ↑ j ∷ []) more)
 
         -- before y, or behind it
         first-replaced : replaceFactors ν bounded look (free (var x) ↑ i ∷ free (var y) ↑ j ∷ []) (free (var x) ↑ i ∷ free (var y) ↑ j ∷ []) ≡ besideOne y j i

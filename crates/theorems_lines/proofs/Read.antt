@@ -13,7 +13,8 @@ use Rattle.rules.specs.Reading.{readTy, records}
 use Rattle.rules.specs.WellFormed.{goodTy}
 use Rattle.rules.specs.Calls.{type_at, differ}
 use Rattle.laws.specs.Checks.{need-passed}
-use Rattle.laws.specs.Lists.{true≢false, some≢none, and_left, and_right, not-true, Every, all-every, all-is, is_any, bound-step, each-came, each-parts}
+use Rattle.laws.specs.Given.{or-some}
+use Rattle.laws.specs.Lists.{true≢false, some≢none, and_left, and_right, not-true, Every, all-every, all-is, is_any, bound-step, each-came, each-length}
 use Rattle.theorems_soundness.specs.Claims.{Ordered, Once}
 use Rattle.rules.specs.Steps.{
   LineStep,
@@ -44,10 +45,6 @@ use Rattle.rules.specs.Steps.{
   lineGiven,
 }
 use Rattle.theorems_lines.proofs.Formed.{FormedStep, Apart}
-
-pub is-there : {A : Type 0} (n : ℕ) (o : Option A) (a : A) → orRefuse n o ≡ got a → o ≡ some a
-is-there n none a e = let z : ◌≡◌ {A = ℕ} 0 1 = cc in absurd (omega arith)
-is-there n (some b) a e = cc
 
 -- ══ Steps ══
 
@@ -114,11 +111,6 @@ words_of (k ∷ a ∷ b ∷ c ∷ ws) ss e = go (stepWords ws) refl (words_of ws
         let h = more us i in
         rw (← y) (omega arith)
 
-each_long : {A B : Type 0} (f : A → Got B) (xs : List A) (ys : List B) → each f xs ≡ got ys → length ys ≡ length xs
-unfolding each
-each_long f [] ys e = let z : [] ≡ ys = cc in rw (← z)
-each_long f (x ∷ xs) ys e = let p = each-parts f x xs ys e in let h = each_long f xs p.second p.then in rw (← p.both) (ap suc h)
-
 pub record ReadLine (t : Table) (order : Ordered (numbersOf t) (is_held t)) (steps : List ℕ) (ss : List (LineStep ℕ)) : Type 0 where
   pub formed : Every (FormedStep (numbersOf t) (is_held t) order) ss
   pub complete : whole 0 ss ≡ true
@@ -136,7 +128,7 @@ line_read t order steps types lines ss e =
     subst (ReadLine t order steps) z (record {
       formed = all-every _ c.0 (λ s m. let w = each-came (stepGiven t b.0 lines) a.0 c.0 c.1 s m in step-formed t order b.0 lines w.of s w.by);
       complete = need-passed (whole 0 c.0) 1 d.1;
-      long = words_of steps a.0 (is-there 1 (stepWords steps) a.0 a.1) ∙ ap (λ (n : ℕ). n * 4) (sym (each_long (stepGiven t b.0 lines) a.0 c.0 c.1));
+      long = words_of steps a.0 (or-some 1 (stepWords steps) a.0 a.1) ∙ ap (λ (n : ℕ). n * 4) (sym (each-length (stepGiven t b.0 lines) a.0 c.0 c.1));
     })
 
 -- ══ Lent names ══

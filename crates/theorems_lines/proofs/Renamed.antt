@@ -46,7 +46,7 @@ use Rattle.rules.specs.Judging.{judge}
 use Rattle.rules.specs.Offices.{Keeps, mapOpen, mapFactor, mapTy, map_tys, mapFields, mapCon, mapBinding, mapAnswer, mapOption}
 use Rattle.theorems_offices.proofs.Over.{Over, next, gives, collect-over}
 use Rattle.theorems_offices.proofs.Sizes.{opens-con, size-cons}
-use Rattle.theorems_offices.proofs.Contents.{unmixed-map}
+use Rattle.theorems_offices.proofs.Contents.{name-map, unmixed-map}
 use Rattle.theorems_offices.proofs.Replacing.{ty-map, looks-map}
 use Rattle.theorems_offices.proofs.Solving.{solve-map}
 use Rattle.theorems_offices.proofs.Judging.{judge-map}
@@ -139,20 +139,15 @@ module _ {N M : Type 0} (f : N → M) where
 
   -- ══ The names of types ══
 
-  open-names : (o : Open N) → to_list (name_of (mapOpen f o)) ≡ map f (to_list (name_of o))
-  open-names (var x) = refl
-  open-names (quant i) = refl
-  open-names (par x) = refl
-
   factor-names : (a : Factor N) → namesOfFactor (mapFactor f a) ≡ map f (namesOfFactor a)
-  factor-names (free o ↑ e) = open-names o
+  factor-names (free o ↑ e) = name-map f o
   factor-names (base n ↑ e) = refl
 
   mutual
     unfolding namesOfTy mapTy
 
     ty-names : (t : Ty N) → namesOfTy (mapTy f t) ≡ map f (namesOfTy t)
-    ty-names (opened o) = open-names o
+    ty-names (opened o) = name-map f o
     ty-names (basic b) = refl
     ty-names (dim p) = collect-over (mapFactor f) f namesOfFactor namesOfFactor factor-names p
     ty-names (fn ps r) = rw (tys-names ps, ty-names r, map-append)

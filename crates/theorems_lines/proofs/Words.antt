@@ -21,6 +21,7 @@ use Rattle.rules.specs.Writing.{Rec, words, writeTy}
 use Rattle.rules.specs.Calls.{lentResult, lent, tableKept, differ, over, resultAfter, writing}
 use Rattle.laws.specs.Checks.{need-passed}
 use Rattle.laws.specs.NameTable.{Good, given-good}
+use Rattle.laws.specs.Given.{or-some}
 use Rattle.laws.specs.Lists.{and_left, and_right, bound-step, All, Every, is_all}
 use Rattle.laws.specs.Ranges.{good-lowest}
 use Rattle.laws.specs.RuleCases.{is-nil}
@@ -46,7 +47,7 @@ use Rattle.rules.specs.Lines.{
 }
 use Rattle.rules.specs.Running.{runLine}
 use Rattle.theorems_lines.specs.Claims.{closed_step, closedLine, RunsTo, AcceptedLine}
-use Rattle.theorems_lines.proofs.Read.{is-there, line_read, names_apart}
+use Rattle.theorems_lines.proofs.Read.{line_read, names_apart}
 use Rattle.theorems_lines.proofs.Formed.{FormedStep, Apart, constraints-formed}
 use Rattle.theorems_lines.proofs.Stacks.{Ready, last-from, runs}
 
@@ -211,7 +212,7 @@ module _ (pool table steps types lines names result work : List ℕ) where
       let r = line_read t p.order steps types lines p.ss p.read in
       let apart = names_apart t p.order names p.differing p.names-held in
       let long : length p.ss ≤ length names = few (length p.ss) (length names) (rw r.long at p.enough-names) in
-      let last = is-there 1 (last_of names p.ss) d.0 d.1 in
+      let last = or-some 1 (last_of names p.ss) d.0 d.1 in
       record {
         ss = p.ss;
         read = p.read;

@@ -29,7 +29,7 @@ fourOf a = fourWords (solvedOf a)
 
 -- ══ A list cut behind whole records ══
 
-four-more : (n : ℕ) → suc n * 4 ≡ suc (suc (suc (suc (n * 4))))
+pub four-more : (n : ℕ) → suc n * 4 ≡ suc (suc (suc (suc (n * 4))))
 four-more n = omega arith
 
 module _ (t : Table) where

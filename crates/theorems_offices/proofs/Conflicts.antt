@@ -16,21 +16,12 @@ use Rattle.rules.specs.Conflicts.{Line, linesFrom, wideOf, remains, conflicting,
 use Rattle.rules.specs.Offices.{Name, Keeps, byBytes, nameNo, mapTy, mapCon, mapAnswer, mapOption, LentAlike, ConflictAlike}
 use Rattle.laws.specs.NameTable.{Good}
 use Rattle.theorems_offices.proofs.Both.{Both, Pair, neither, both, pair, hence, through, checked}
+use Rattle.theorems_offices.proofs.Contents.{keep-map}
 use Rattle.theorems_offices.proofs.Given.{Alike, as_long, short, kept-alike, lent_alike, set_given, apart-alike, set-opens}
 use Rattle.theorems_offices.proofs.Naming.{keeps}
 use Rattle.theorems_offices.proofs.Over.{Over, next, gives, same_over}
 use Rattle.theorems_offices.proofs.Results.{front-over}
 use Rattle.theorems_offices.proofs.Solving.{solve-map}
-
-keep-map : {A B : Type 0} (g : A → B) (p : A → Bool) (q : B → Bool) → ((a : A) → q (g a) ≡ p a) → (xs : List A) → keep q (map g xs) ≡ map g (keep p xs)
-unfolding keep
-keep-map g p q e [] = refl
-keep-map {A} {B} g p q e (x ∷ xs) = rw (e x) (kept (p x) (keep-map g p q e xs))
-  where
-    kept : (b : Bool) → keep q (map g xs) ≡ map g (keep p xs)
-        → elim b [ true ↦ g x ∷ keep q (map g xs) | false ↦ keep q (map g xs) ] ≡ map g (elim b [ true ↦ x ∷ keep p xs | false ↦ keep p xs ])
-    kept true i = ap (λ (ys : List B). g x ∷ ys) i
-    kept false i = i
 
 module _ {N M : Type 0} (f : N → M) where
   abbrev mapLine : Line N → Line M

@@ -124,7 +124,7 @@ module _ {N M : Type 0} (f : N → M) where
   parameter-map (quant i) = refl
   parameter-map (par x) = refl
 
-  name-map : (o : Open N) → to_list (name_of (mapOpen f o)) ≡ map f (to_list (name_of o))
+  pub name-map : (o : Open N) → to_list (name_of (mapOpen f o)) ≡ map f (to_list (name_of o))
   name-map (var x) = refl
   name-map (quant i) = refl
   name-map (par x) = refl

@@ -11,6 +11,7 @@ use Rattle.rules.specs.Solving.{Answer, accepted, remaining, stopped, solve}
 use Rattle.rules.specs.Writing.{writeBinding, writeBound}
 use Rattle.rules.specs.Calls.{resultAfter, solved, unsolved, refusedAfter, solvedOf, solvedWords, solvedSet, solveCall}
 use Rattle.rules.specs.Offices.{Name, byBytes, nameNo, mapCon, mapBinding, mapAnswer, ReadAlike, LentAlike, SolvedAlike, frontSolved}
+use Rattle.laws.specs.Answers.{records-length}
 use Rattle.laws.specs.NameTable.{Good}
 use Rattle.laws.specs.Size.{set-length, bindings-length}
 use Rattle.theorems_offices.proofs.Both.{Both, Pair, neither, both, pair, hence, alike, checked}
@@ -20,9 +21,6 @@ use Rattle.theorems_offices.proofs.Naming.{keeps}
 use Rattle.theorems_offices.proofs.Writing.{set-written, answer-written}
 use Rattle.theorems_offices.proofs.Results.{nothing, fronts}
 use Rattle.theorems_offices.proofs.Given.{Alike, as_long, short, kept-alike, lent_alike, set_given, apart-alike, set-opens}
-
-answer-length : (bs : List (Binding ℕ)) (ns : List ℕ) → length (collect writeBinding bs ++ map (λ n. writeBound (var n)) ns) ≡ sum_of sizeBinding bs + length ns
-answer-length bs ns = simp (length-append, bindings-length bs, length-map ns (λ n. writeBound (var n)))
 
 module _ {pool table pool' table' : List ℕ} (good : Good pool table) (good' : Good pool' table') where
   -- the two tables, and the names of their numbers
@@ -61,7 +59,7 @@ module _ {pool table pool' table' : List ℕ} (good : Good pool table) (good' : 
       record {
         answer = solved-same (sym (size-bindings ν₁ bs) ∙ ap (sum_of sizeBinding) x ∙ size-bindings ν₂ bs')
             (sym (length-map ns ν₁) ∙ ap length y ∙ length-map ns' ν₂) z;
-        records = λ b b'. fronts T₁ T₂ _ _ _ _ b b' (answer-length bs ns) (answer-length bs' ns') (answer-written T₁ T₂ bs bs' ns ns' x y);
+        records = λ b b'. fronts T₁ T₂ _ _ _ _ b b' (records-length bs ns) (records-length bs' ns') (answer-written T₁ T₂ bs bs' ns ns' x y);
       }
     where
       solved-same : {m m' n n' k k' : ℕ} → m ≡ m' → n ≡ n' → k ≡ k' → solved m n k ≡ solved m' n' k'

@@ -30,6 +30,7 @@ use Rattle.laws.specs.Lists.{
   all_nil,
   all_cons,
   all_append,
+  keep-none,
   in_head,
   is_any,
   Came,
@@ -54,15 +55,6 @@ use Rattle.theorems_soundness.proofs.Putting.{ty-put}
 use Rattle.theorems_soundness.proofs.Truth.{FitsIn, Holds, Respects, dimensional-holds, con-back}
 use Rattle.theorems_soundness.proofs.Back.{TrueCon, TrueBind, rule-true}
 use Rattle.theorems_soundness.proofs.Finds.{find-member, find_none, find-once, unbound, Twins, twins-end, twins-turn}
-
-keep-none : {A : Type 0} (p : A → Bool) (xs : List A) → keep p xs ≡ [] → All (λ a. p a ≡ false) xs
-unfolding keep
-keep-none p [] e = all_nil (λ a. p a ≡ false)
-keep-none p (x ∷ xs) e = go (p x) refl (keep-none p xs)
-  where
-    go : (b : Bool) → p x ≡ b → (keep p xs ≡ [] → All (λ a. p a ≡ false) xs) → All (λ a. p a ≡ false) (x ∷ xs)
-    go true i r = let z : x ∷ keep p xs ≡ [] = rw (i, keep) at e in absurd (cons≢nil z)
-    go false i r = all_cons (λ a. p a ≡ false) i (r (rw (i, keep) at e))
 
 is_some : {A : Type 0} (o : Option A) → is_none o ≡ false → (a : A) × (o ≡ some a)
 is_some none e = absurd (true≢false e)

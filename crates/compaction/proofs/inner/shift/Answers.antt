@@ -34,4 +34,4 @@ shape_of-pool c = c.loop-i.invariant.0
 pub returns : goal.returns
 returns c =
     let l = c.loop-i in
-    shift-end _ _ l.i (c.args.out + (l.i - c.args.from)) _ c.loop-i-test.false (l.auto.i-end c.requires.turned) l.invariant.1
+    shift-end _ _ l.i (c.args.out + (l.i - c.args.from)) _ c.loop-i-test.false (l.auto.i-end c.requires.order) l.invariant.1

@@ -36,7 +36,7 @@ shift-requires c =
     let d = c.loop-i.invariant in
     let more = c.loop-i-test.true in
     let E = end_is g d in
-    record { forward = d.behind; turned = omega (arith, E, rises g d more); within = omega (arith, E, within g d more, pool-long g d, g.bytes) }
+    record { forward = d.behind; order = omega (arith, E, rises g d more); within = omega (arith, E, within g d more, pool-long g d, g.bytes) }
 
 pub overflow_sub-out : goal.overflow_sub-out
 overflow_sub-out c =

@@ -50,7 +50,7 @@ overflow_mul-k c = let f : Found c.args.names.pool.now c.args.names.table.now c.
 pub put_words-requires : goal.put_words-requires
 put_words-requires c = let f : Found c.args.names.pool.now c.args.names.table.now c.args.s.now c.loop-at.at c.in-Some.e = found _ _ _ _ _ c.in-Some.ensures in
     record {
-      turned = omega (arith, f.moves);
+      order = omega (arith, f.moves);
       within = omega (arith, f.within);
       few = omega (arith, c.requires);
       place = omega (arith, f.moves, f.within, c.loop-at.invariant.2, c.requires);
