@@ -101,7 +101,8 @@ pub told-at : (answers four : List ℕ) (at n : ℕ) (a : Got (Answer ℕ)) (s :
 told-at answers four at n a s i e k room =
     let is : four ≡ fourOf a = i ∙ ap fourWords e in
     let long : length four ≡ 4 = ap length is ∙ four-long (solvedOf a) in
-    ap (λ (x : List ℕ). take at answers ++ (four ++ x)) (drop-drop n at answers ∙ ap (λ (k : ℕ). drop k answers) (let j : at + n ≡ at + length four = omega (arith, k, long) in j))
+    let past : at + n ≡ at + length four = omega (arith, k, long) in
+    ap (λ (x : List ℕ). take at answers ++ (four ++ x)) (drop-drop n at answers ∙ ap (λ (k : ℕ). drop k answers) past)
     ∙ sym (append_assoc (take at answers) four (drop (at + length four) answers))
     ∙ sym (sets-eq four answers at (omega (arith, long, room))) ∙ ap (sets answers at) is
 
@@ -163,8 +164,8 @@ module _ (f : List ℕ → Got (Answer ℕ)) (words lengths : List ℕ) where
           (ap (λ (k : ℕ). take k (drop from words)) (let k : get_or lengths i 0 * 4 ≡ to - from = omega arith in k))
           (drop-drop (get_or lengths i 0 * 4) from words))
 
-      module _ {result' answers' : List ℕ} {r : ℕ} {s : Solved} (w : Written (f next) s result result' (out * 4)) (told : answers' ≡ sets answers (i * 4) (fourOf (f next)))
-          (many : r ≡ out + manyOf (f next)) where
+      module _ {result' answers' : List ℕ} {r : ℕ} {s : Solved} (w : Written (f next) s result result' (out * 4))
+          (told : answers' ≡ sets answers (i * 4) (fourOf (f next))) (many : r ≡ out + manyOf (f next)) where
         abbrev a : Got (Answer ℕ)
         a = f next
 

@@ -35,7 +35,7 @@ use Rattle.rules.specs.Trees.{
 }
 use Rattle.rules.specs.Views.{productOf, struct_of}
 use Rattle.rules.specs.Writing.{Rec, rec, head, twos, writeFactor, writeProduct, writeTy, writeCon, writeBinding}
-use Rattle.laws.specs.Lists.{each-parts}
+use Rattle.laws.specs.Lists.{each-length}
 use Rattle.laws.specs.RuleCases.{parts}
 use Rattle.exponents.specs.Answers.{expOf}
 use Rattle.exponents.specs.declared.Exponent.{Exponent}
@@ -140,11 +140,6 @@ module _ (k : Exp) (a : atoms.Atom) (j : Exp) {p q : Product ℕ} (e : atomOf a 
       go (refused n) (Ok u) l = absurd l
       go (refused n) (Err why) l = record { same = h.same ∙ b.same; says = l }
 
-pub each-long : {A B : Type 0} (f : A → Got B) (xs : List A) (ys : List B) → each f xs ≡ got ys → length ys ≡ length xs
-unfolding each
-each-long f [] ys e = let q : [] ≡ ys = cc in ap length (sym q)
-each-long f (x ∷ xs) ys e = let t = each-parts f x xs ys e in ap length (sym t.both) ∙ ap suc (each-long f xs t.second t.then)
-
 module _ (x : ℕ) (f : Factor ℕ → Got (Factor ℕ)) (p : Product ℕ) where
   pub solved : {w w₁ w₂ w₃ : Writer} {n : ℕ} (u : Unit {0}) → length p ≡ n → n ≤ 65_000 → Writes w w₁ (recOf (view.Binding x) (fit (2 + n)) ∷ [])
       → Writes w₁ w₂ (recOf (view.Dim n) (fit (1 + n)) ∷ []) → FactorsPut w₂ w₃ (Ok u) (each f p)
@@ -155,7 +150,7 @@ module _ (x : ℕ) (f : Factor ℕ → Got (Factor ℕ)) (p : Product ℕ) where
       go : (m : Got (Product ℕ)) → each f p ≡ m → FactorsLeft w₂ w₃ (Ok u) m → Applied w w₃ (Ok (Bind w₃.at)) (boundTo x m)
       go (refused k) q v = absurd v
       go (got ys) q v =
-          let y : n ≡ length ys = sym (each-long f p ys q ∙ l) in
+          let y : n ≡ length ys = sym (each-length f p ys q ∙ l) in
           let heads = solved-written x y (omega (arith, y)) a b in
           record {
             same = h.same ∙ b.same ∙ a.same;

@@ -11,6 +11,7 @@ use Rattle.rules.specs.Rounds.{by_kind, pairs, asProducts, functions, lists, str
 use Rattle.rules.specs.Trees as tree
 use Rattle.rules.specs.Trees.{Names, Product, Ty, Tys, Fields, equal, ty-dec, count}
 use Rattle.rules.specs.Views.{productOf, asVar, asPower}
+use Rattle.types.proofs.FieldsFound.{named-same}
 use Rattle.types.specs.declared.Fields as fields
 use Rattle.types.specs.declared.Product as products
 use Rattle.types.specs.declared.Shape.{Shape}
@@ -131,10 +132,6 @@ module _ (ν : Names ℕ) {l r : Ty ℕ} (s : Shape) (f : whole s ≡ r) where
 pub basic-left : (ν : Names ℕ) {l : Ty ℕ} (r : Ty ℕ) {b : tree.Basic} → tree.basic b ≡ l → by_kind ν bounded l r ≡ got rules.stuck
 unfolding by_kind
 basic-left ν r e = rw (← e)
-
-named-same : (x y : ℕ) (d : Dec (x ≡ y)) → is_yes d ≡ eqb x y
-named-same x y (yes p) = sym (eq-eqb x y p)
-named-same x y (no n) = sym (ne_eqb x y n)
 
 module _ (names : List Bytes) {l r : Ty ℕ} {x y : ℕ} {as' bs : Tys ℕ} {fs gs : Fields ℕ} (e : tree.struct x as' fs ≡ l) (f : tree.struct y bs gs ≡ r) where
   abbrev alike : Bool

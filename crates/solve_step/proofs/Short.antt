@@ -40,7 +40,7 @@ use Rattle.rules.specs.WellFormed.{goodProduct, goodTy, goodCon}
 use Rattle.rules.specs.Writing.{words}
 use Rattle.rules.specs.declared.Refusal.{Refusal}
 use Rattle.laws.specs.GoodProducts.{good-product, divide-good}
-use Rattle.laws.specs.Lists.{and_left, and_right}
+use Rattle.laws.specs.Lists.{each-length, and_left, and_right}
 use Rattle.laws.specs.Size.{size-binding, set-length}
 use Rattle.laws.specs.RuleCases.{
   Sides,
@@ -70,7 +70,6 @@ use Rattle.solve_step.specs.Bindings.{either, firstBinding}
 use Rattle.solve_step.specs.Stepped.{GoodCon, Stepped}
 use Rattle.solve_step.specs.declared.Step.{Step}
 use Rattle.solve_step.specs.declared.Step.TheVariants.{Bind, Split}
-use Rattle.solve_step.proofs.Others.{each-long}
 
 -- how much a step writes
 abbrev pub long : rules.Step ℕ → ℕ
@@ -162,7 +161,7 @@ module _ (pool table : List ℕ) where
       go (two-dimensions d e q k h i) = omega (arith, ap long i, quotient-long c d e q g h k)
       go (dimension p h i) = omega (arith, ap long i, n, ap sizeCon h, parts-long p)
       go (no-factor h i) = omega (arith, ap long i)
-      go (first-factor x k p q m h i) = omega (arith, ap long i, n, ap sizeCon h, each-long (otherSide bounded k) p q m)
+      go (first-factor x k p q m h i) = omega (arith, ap long i, n, ap sizeCon h, each-length (otherSide bounded k) p q m)
       go (closed-struct x m as' fs t u o f h i) = omega (arith, ap long i, n, ap sizeCon h, field-long (numbers pool table) x fs u f)
 
 -- so the writer's count and buffer are those of the whole step

@@ -1,19 +1,7 @@
--- How many records the parts have.
+-- How many records the parts of a constraint have.
 use Rattle.std.specs.Prelude.{◌≡◌, ℕ, suc, ◌+◌, length}
 use Rattle.std.proofs.Common.{ap}
 use Rattle.rules.specs.Trees.{Product, Ty, fn, struct, list, Tys, Fields, Con, equal, is_scalar, hasField, size, sizeTys, sizeFields, sizeCon}
-
-pub fn-size : (ps : Tys ℕ) (t l : Ty ℕ) → fn ps t ≡ l → suc (sizeTys ps + size t) ≡ size l
-unfolding size
-fn-size ps t l e = ap size e
-
-pub struct-size : (x : ℕ) (as' : Tys ℕ) (fs : Fields ℕ) (l : Ty ℕ) → struct x as' fs ≡ l → suc (sizeTys as' + sizeFields fs) ≡ size l
-unfolding size
-struct-size x as' fs l e = ap size e
-
-pub list-size : (t l : Ty ℕ) → list t ≡ l → suc (size t) ≡ size l
-unfolding size
-list-size t l e = ap size e
 
 pub equal-size : (l r : Ty ℕ) (c : Con ℕ) → equal l r ≡ c → suc (size l + size r) ≡ sizeCon c
 unfolding sizeCon

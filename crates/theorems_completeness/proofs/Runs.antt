@@ -33,7 +33,7 @@ use Rattle.rules.specs.Solving.{Answer, accepted, remaining, stopped, boundOf, f
 use Rattle.rules.specs.Choices.{Fixed, Choice, Rational}
 use Rattle.laws.specs.Order.{Lawful, Tells}
 use Rattle.laws.specs.ByteOrder.{atom-lawful}
-use Rattle.laws.specs.Lists.{true≢false, some≢none, not-false, is-yes, All, in_head, keep-none}
+use Rattle.laws.specs.Lists.{true≢false, some≢none, not-false, is-yes, All, all_nil, all_cons, in_head, keep-none}
 use Rattle.laws.specs.Fractions.{Lowest}
 use Rattle.laws.specs.Exact.{OfLimits}
 use Rattle.laws.specs.GoodProducts.{goodAtom, atom-tells}

@@ -113,13 +113,14 @@ returns-in_default c =
     let f = found _ _ _ _ _ _ _ _ _ c.search.invariant.2 c.in-Some.ensures.steps in
     let r = c.without-rest.ensures f.before f.behind (record { passed = f.passed; stay = f.stay }) in
     let n = c.perform.ensures _ (is-taken _ _ _ _ _ _ _ f c.args.state c.requires.sound.sound.bindings r c.in_ok-step.ensures) in
-    let k : c.in-Some.c.at - c.args.state.before.at ≡ sum_of sizeCon c.without-rest.result.before.trees.0 = omega (arith, f.passed.ends, ap (sum_of sizeCon) r.before) in
+    let k : c.in-Some.c.at - c.args.state.before.at ≡ sum_of sizeCon c.without-rest.result.before.trees.0 =
+        omega (arith, f.passed.ends, ap (sum_of sizeCon) r.before) in
+    let idle = subst (Idle c.args.names.pool.now c.args.names.table.now) (sym r.before) f.idle in
     rw (c.written.ensures, c.still_stuck-stuck.ensures) (record {
       same = n.same ∙ ap (λ (w : Writer). w.words.ghost_name) c.search.invariant.1;
       rounded = rounded-as (applied _ _ _ _ _ _ _ f c.without-rest.result r.before r.behind (ap (λ (b : Bindings). b.trees.0) r.bindings)
           (some-rule c.in_ok-step.ensures c.in_default.not-Stuck))
-          (wrote n.turned (λ st ends e held. still _ _ c.without-rest.result (subst (Idle c.args.names.pool.now c.args.names.table.now) (sym r.before) f.idle) k _ st ends held _ _ _ e _
-          c.in_ok-step.ensures));
+          (wrote n.turned (λ st ends e held. still _ _ c.without-rest.result idle k _ st ends held _ _ _ e _ c.in_ok-step.ensures));
     })
 
 pub returns : goal.returns

@@ -19,7 +19,7 @@ use Rattle.solve_step.proofs.Rules.{
   two-names,
   other-count,
 }
-use Rattle.solve_step.proofs.Sizes.{fn-size, struct-size, list-size}
+use Rattle.replace.proofs.Walks.{sizes-function, sizes-struct, sizes-list}
 use Rattle.solve_step.proofs.Written.{applied-as, products-as, split-is, stuck-is, one-con, cons-con}
 use Rattle.solve_step.proofs.inner.kinds.by_kind.Goals as goal
 
@@ -109,13 +109,13 @@ pub as_product-requires-in-Open-Dimension : goal.as_product-requires-in-Open-Dim
 as_product-requires-in-Open-Dimension c = omega (arith, c.requires.short)
 
 pub equal-requires : goal.equal-requires
-equal-requires c = let i = c.in-Function-Function in omega (arith, c.requires.short, fn-size _ _ _ i.ensures, fn-size _ _ _ i.ensures')
+equal-requires c = let i = c.in-Function-Function in omega (arith, c.requires.short, sizes-function _ _ _ i.ensures, sizes-function _ _ _ i.ensures')
 
 pub pairs-requires : goal.pairs-requires
-pairs-requires c = let i = c.in-Function-Function in omega (arith, c.requires.short, fn-size _ _ _ i.ensures, fn-size _ _ _ i.ensures')
+pairs-requires c = let i = c.in-Function-Function in omega (arith, c.requires.short, sizes-function _ _ _ i.ensures, sizes-function _ _ _ i.ensures')
 
 pub pairs-requires-in-Struct-Struct : goal.pairs-requires-in-Struct-Struct
-pairs-requires-in-Struct-Struct c = let i = c.in-Struct-Struct in omega (arith, c.requires.short, struct-size _ _ _ _ i.ensures, struct-size _ _ _ _ i.ensures')
+pairs-requires-in-Struct-Struct c = let i = c.in-Struct-Struct in omega (arith, c.requires.short, sizes-struct _ _ _ _ i.ensures, sizes-struct _ _ _ _ i.ensures')
 
 pub equal-requires-in-List-List : goal.equal-requires-in-List-List
-equal-requires-in-List-List c = let i = c.in-List-List in omega (arith, c.requires.short, list-size _ _ i.ensures, list-size _ _ i.ensures')
+equal-requires-in-List-List c = let i = c.in-List-List in omega (arith, c.requires.short, sizes-list _ _ i.ensures, sizes-list _ _ i.ensures')

@@ -2,7 +2,7 @@ use Rattle.rules.specs.Names.{numbered}
 use Rattle.std.proofs.Common.{arith, [], sym, ◌∙◌}
 use Rattle.solve_step.proofs.Others.{field-open, field-not-struct, field-found, field-missing}
 use Rattle.solve_step.proofs.Short.{field-long}
-use Rattle.solve_step.proofs.Sizes.{struct-size}
+use Rattle.replace.proofs.Walks.{sizes-struct}
 use Rattle.solve_step.proofs.Written.{split-is, stuck-is, one-con}
 use Rattle.solve_step.proofs.inner.others.has_field.Goals as goal
 
@@ -23,4 +23,4 @@ returns c = λ names. split-is _ (field-found names _ _ _ (sym c.is_closed.ensur
 
 pub equal-requires : goal.equal-requires
 equal-requires c =
-    omega (arith, c.requires, struct-size _ _ _ _ c.in-Struct.ensures, field-long (numbered []) c.args.x _ _ (sym (c.in-Some.ensures [])))
+    omega (arith, c.requires, sizes-struct _ _ _ _ c.in-Struct.ensures, field-long (numbered []) c.args.x _ _ (sym (c.in-Some.ensures [])))
