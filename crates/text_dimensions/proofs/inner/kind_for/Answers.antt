@@ -1,4 +1,5 @@
 -- `inner::kind_for` meets its contract.
+use Rattle.std.proofs.Common.{rules}
 use Rattle.text_dimensions.specs.Atoms.{forVariable, forParameter, forBase, forNone}
 use Rattle.text_dimensions.proofs.inner.kind_for.Goals as goal
 
@@ -12,4 +13,4 @@ pub returns-in-35 : goal.returns-in-35
 returns-in-35 c = forBase c.in-35.is
 
 pub returns-in_default : goal.returns-in_default
-returns-in_default c = let r = c.in_default.in_default-own.rest in forNone r.0.0.1 r.0.1 r.1
+returns-in_default c = let d = c.in_default in forNone (search rules) (search rules) (search rules)
