@@ -1,5 +1,6 @@
 -- The checks of the judge at entry, and what is known where they are met.
-use Rattle.std.specs.Prelude.{Option, Some, None, Ok, Err, IfOk, ◌≡◌, Bool, true, ◌&&◌, List, [], ◌∷◌, ◌++◌, map, ℕ, ◌/◌, ◌%◌, ◌≤◌, ◌<◌, eqb, length, replicate, Result}
+use Rattle.std.specs.Prelude.{Result, Ok, Err, IfOk, Option, Some, None, ◌≡◌, Bool, true, ◌&&◌, ℕ, ◌/◌, ◌%◌, ◌≤◌, ◌<◌, eqb}
+use Rattle.std.specs.Prelude.{List, [], ◌∷◌, ◌++◌, map, length, replicate}
 use Rattle.std.proofs.Math.Path.{refl, sym}
 use Rattle.std.proofs.Common.{ap, ap₂, ◌∙◌}
 use Rattle.std.proofs.Math.Bool.{false}
