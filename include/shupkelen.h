@@ -234,7 +234,7 @@ uint32_t shupkelen_ceiling(const uint8_t *pool, size_t pool_len, const uint32_t 
 
 /* ---- Sets, calculation lines and schemes ----
  *
- * shupkelen_add: buffer has SHUPKELEN_LIST_WORDS words or more. shupkelen_solve: x y = x z, with x boolean, is answered, and is not true.
+ * shupkelen_add: buffer has SHUPKELEN_LIST_WORDS words or more.
  * shupkelen_solve_all: up to SHUPKELEN_SETS sets; result has n x SHUPKELEN_LIST_WORDS words or more. shupkelen_judge: over 2,048 pairs are 8; look at the
  * value, since 0 is returned for a no, too. shupkelen_check_line: a step is its number (enum shupkelen_step), then a, b and c, 0 where unused; on 5 nothing
  * remains to be told: value is 0, result unchanged. Handed names are words, a number each. */
@@ -259,7 +259,8 @@ uint32_t shupkelen_replace_in_set(const uint8_t *pool, size_t pool_len, const ui
 /* Solves a set, round by round: the bindings, then the bounds (variables that may be any dimension), at the front of result. Says how many records of bindings,
  * how many bounds, a record each, and how many rounds were completed; the work buffer is left all zero. On 5 result begins with the constraints that remain,
  * and their records are said. Refuses with 10, 8, 1, 4, then 5, 6, 7 and 8. What is answered makes every constraint true where no variable that stands in a
- * dimension product of the set is bound to anything but a dimension or a variable, and elsewhere it may not: shupkelen_confirm answers only what does. */
+ * dimension product of the set is bound to anything but a dimension or a variable, and elsewhere it may not (x y = x z is answered, with x boolean):
+ * shupkelen_confirm answers only what does. */
 uint32_t shupkelen_solve(const uint8_t *pool, size_t pool_len, const uint32_t *table, size_t table_len, const uint32_t *set, size_t set_len, uint32_t *result,
     size_t result_len, uint32_t *work, size_t work_len, uint32_t *answer, size_t answer_len);
 
@@ -270,9 +271,9 @@ uint32_t shupkelen_confirm(const uint8_t *pool, size_t pool_len, const uint32_t 
     size_t result_len, uint32_t *work, size_t work_len, uint32_t *answer, size_t answer_len);
 
 /* Solves up to 64 sets that stand back to back, each by itself; lengths has their records. Of each set four words go to answers: the refusal, completed rounds,
- * records of bindings (on 5: of what remains), bounds; result has their records back to back, and says how many these are together. With n sets result has
- * 8,192 n words and answers 4 n, or more. Refuses with 10, 8 and 1; a refused set doesn't stop those after it. Each answer is worth what that of
- * shupkelen_solve is: of an accepted set ask the judge, or shupkelen_confirm. */
+ * records of bindings (on 5: of what remains), bounds; result has their records back to back. Says how many these are together. With n sets result has 8,192 n
+ * words and answers 4 n, or more. Refuses with 10, 8 and 1; a refused set doesn't stop those after it. Each answer is worth what that of shupkelen_solve is: of
+ * an accepted set ask the judge, or shupkelen_confirm. */
 uint32_t shupkelen_solve_all(const uint8_t *pool, size_t pool_len, const uint32_t *table, size_t table_len, const uint32_t *sets, size_t sets_len,
     const uint32_t *lengths, size_t lengths_len, uint32_t *result, size_t result_len, uint32_t *answers, size_t answers_len, uint32_t *work, size_t work_len,
     uint32_t *answer, size_t answer_len);
@@ -285,7 +286,7 @@ uint32_t shupkelen_eliminate(const uint8_t *pool, size_t pool_len, const uint32_
 
 /* Is this a solution of the set, whoever proposed it? Entries are pairs of words: a variable's number, and the place of its type in types, in records; an odd
  * last word is not looked at. bounds has records of bounds. Says 1 for yes and 0 for no, and returns 0 for a no, too; the work buffer is left all zero. Refuses
- * with 10, 8, 1, 4, then 7 and 8. */
+ * with 10, 8 (over 2,048 pairs, too), 1, 4, then 7 and 8. */
 uint32_t shupkelen_judge(const uint8_t *pool, size_t pool_len, const uint32_t *table, size_t table_len, const uint32_t *set, size_t set_len,
     const uint32_t *entries, size_t entries_len, const uint32_t *types, size_t types_len, const uint32_t *bounds, size_t bounds_len, uint32_t *work,
     size_t work_len, uint32_t *answer, size_t answer_len);

@@ -182,8 +182,8 @@ pub fn replace_in_set(pool: &[u8], table: &[u32], set: &[u32], bindings: &[u32],
 /// Solves a set, round by round: the bindings, then the bounds (variables that may be any dimension), at the front of `result`. Says how many records of
 /// bindings, how many bounds, a record each, and how many rounds were completed; the work buffer is left all zero. On 5 `result` begins with the constraints
 /// that remain, and their records are said. Refuses with 10, 8, 1, 4, then 5, 6, 7 and 8. What is answered makes every constraint true where no variable that
-/// stands in a dimension product of the set is bound to anything but a dimension or a variable, and elsewhere it may not: `shupkelen_confirm` answers only what
-/// does.
+/// stands in a dimension product of the set is bound to anything but a dimension or a variable, and elsewhere it may not (x y = x z is answered, with x
+/// boolean): `shupkelen_confirm` answers only what does.
 pub fn solve(pool: &[u8], table: &[u32], set: &[u32], result: &mut [u32], work: &mut [u32]) -> Told {
     ask!(shupkelen_solve, &pool, &table, &set, mut result, mut work)
 }
@@ -196,9 +196,9 @@ pub fn confirm(pool: &[u8], table: &[u32], set: &[u32], result: &mut [u32], work
 }
 
 /// Solves up to 64 sets that stand back to back, each by itself; `lengths` has their records. Of each set four words go to `answers`: the refusal, completed
-/// rounds, records of bindings (on 5: of what remains), bounds; `result` has their records back to back, and says how many these are together. With n sets
-/// `result` has 8,192 n words and `answers` 4 n, or more. Refuses with 10, 8 and 1; a refused set doesn't stop those after it. Each answer is worth what that
-/// of `shupkelen_solve` is: of an accepted set ask the judge, or `shupkelen_confirm`.
+/// rounds, records of bindings (on 5: of what remains), bounds; `result` has their records back to back. Says how many these are together. With n sets `result`
+/// has 8,192 n words and `answers` 4 n, or more. Refuses with 10, 8 and 1; a refused set doesn't stop those after it. Each answer is worth what that of
+/// `shupkelen_solve` is: of an accepted set ask the judge, or `shupkelen_confirm`.
 pub fn solve_all(pool: &[u8], table: &[u32], sets: &[u32], lengths: &[u32], result: &mut [u32], answers: &mut [u32], work: &mut [u32]) -> Told {
     ask!(shupkelen_solve_all, &pool, &table, &sets, &lengths, mut result, mut answers, mut work)
 }
@@ -212,7 +212,7 @@ pub fn eliminate(pool: &[u8], table: &[u32], set: &[u32], result: &mut [u32], wo
 
 /// Is this a solution of the set, whoever proposed it? Entries are pairs of words: a variable's number, and the place of its type in `types`, in records; an
 /// odd last word is not looked at. `bounds` has records of bounds. Says 1 for yes and 0 for no, and returns 0 for a no, too; the work buffer is left all zero.
-/// Refuses with 10, 8, 1, 4, then 7 and 8.
+/// Refuses with 10, 8 (over 2,048 pairs, too), 1, 4, then 7 and 8.
 pub fn judge(pool: &[u8], table: &[u32], set: &[u32], entries: &[u32], types: &[u32], bounds: &[u32], work: &mut [u32]) -> Told {
     ask!(shupkelen_judge, &pool, &table, &set, &entries, &types, &bounds, mut work)
 }
