@@ -114,7 +114,7 @@ returns-in_default c =
     let r = c.without-rest.ensures f.before f.behind (record { passed = f.passed; stay = f.stay }) in
     let n = c.perform.ensures _ (is-taken _ _ _ _ _ _ _ f c.args.state c.requires.sound.sound.bindings r c.in_ok-step.ensures) in
     let k : c.in-Some.c.at - c.args.state.before.at ≡ sum_of sizeCon c.without-rest.result.before.trees.0 =
-        omega (arith, f.passed.ends, ap (sum_of sizeCon) r.before) in
+    omega (arith, f.passed.ends, ap (sum_of sizeCon) r.before) in
     let idle = subst (Idle c.args.names.pool.now c.args.names.table.now) (sym r.before) f.idle in
     rw (c.written.ensures, c.still_stuck-stuck.ensures) (record {
       same = n.same ∙ ap (λ (w : Writer). w.words.ghost_name) c.search.invariant.1;
