@@ -1,5 +1,5 @@
 -- A certificate's file: of each sheet that is kept the name of its file, the file's digest, and lines over the sheet's names.
-use Rattle.std.specs.Prelude.{◌≡◌, Bool, true, false, ◌||◌, ℕ, ltb, eqb, List, [], ◌∷◌, ◌++◌, length, Result, Ok, Err, Vec, ⊤}
+use Rattle.std.specs.Prelude.{◌≡◌, Bool, true, false, ◌||◌, ℕ, ltb, eqb, List, [], ◌∷◌, ◌++◌, length, map, Result, Ok, Err, Vec, ⊤}
 use Rattle.std.specs.declared.alloc.Global.{Global}
 use Rattle.hex.specs.Hex.{encode_lower}
 use Rattle.rules.specs.Base.{collect}
@@ -23,13 +23,34 @@ writtenByte b = writtenWhere (isEscaped b) b
 unfoldable pub writtenName : Bytes → Bytes
 writtenName name = collect writtenByte name
 
+-- what is kept of a sheet: its file's name as it is written, the file's digest, and lines over the sheet's names
+pub record Kept : Type 0 where
+  pub name : Bytes
+  pub digest : List ℕ
+  pub lines : Bytes
+
+abbrev pub keptOf : Entry → Kept
+keptOf e = record { name = e.name.items; digest = e.digest; lines = e.lines.items }
+
 -- its lines stand as they are: each begins with two blanks and ends with a line feed
-unfoldable pub entryText : Entry → Bytes
-entryText e = ascii "sheet " ++ (e.name.items ++ (ascii "\nsha256 " ++ (encode_lower e.digest ++ (ascii "\n" ++ (e.lines.items ++ ascii "end\n")))))
+unfoldable pub keptText : Kept → Bytes
+keptText k = ascii "sheet " ++ (k.name ++ (ascii "\nsha256 " ++ (encode_lower k.digest ++ (ascii "\n" ++ (k.lines ++ ascii "end\n")))))
 
 -- the last line tells how many sheets there are: a certificate that is torn hasn't it
-unfoldable pub certificateText : List Entry → Bytes
-certificateText es = ascii "check_edition certificate 1\n" ++ (collect entryText es ++ (ascii "sheets " ++ (amount (length es) ++ ascii "\n")))
+abbrev pub lastLine : ℕ → Bytes
+lastLine sheets = ascii "sheets " ++ amount sheets
+
+abbrev pub firstLine : Bytes
+firstLine = ascii "check_edition certificate 1\n"
+
+unfoldable pub keptsText : List Kept → Bytes
+keptsText ks = firstLine ++ (collect keptText ks ++ (lastLine (length ks) ++ ascii "\n"))
+
+abbrev pub entryText : Entry → Bytes
+entryText e = keptText (keptOf e)
+
+abbrev pub certificateText : List Entry → Bytes
+certificateText es = keptsText (map keptOf es)
 
 -- what is read is what would be written
 abbrev pub IsReadFrom : Bytes → Result (Vec Entry Global) Fault → Type 0
