@@ -1,6 +1,5 @@
 -- What is kept of sheets, and its text.
-use Rattle.std.proofs.Common.{◌≡◌, refl, sym, ap, ◌∙◌, append_assoc, ◌++◌, ◌+◌, ◌<◌, ◌||◌, Bool, true, false, ℕ, List, [], ◌∷◌, length, take, get_or, map, eqb, arith}
-use Rattle.std.specs.List.{list_any}
+use Rattle.std.proofs.Common.{◌≡◌, refl, sym, ap, ◌∙◌, append_assoc, ◌++◌, ◌+◌, ◌<◌, Bool, true, false, ℕ, List, [], ◌∷◌, length, take, get_or, map, eqb}
 use Rattle.std.proofs.lemmas.List.{get_or-map, length-map}
 use Rattle.std.proofs.lemmas.List.Folds.{list_any_at, list_any_more}
 use lib.Pointwise.{pointwise}
@@ -21,8 +20,8 @@ pub certificate-text : (es : List Entry) {first sheets last all : Bytes} → fir
 unfolding keptsText
 certificate-text es a b c d =
     d ∙ ap (λ (t : Bytes). t ++ ascii "\n") (c ∙ ap (λ (t : Bytes). t ++ lastLine (length es)) (b ∙ ap (λ (t : Bytes). t ++ collect entryText es) a))
-    ∙ append_assoc (firstLine ++ collect entryText es) (lastLine (length es)) (ascii "\n") ∙ append_assoc firstLine (collect entryText es) (lastLine (length es) ++ ascii "\n")
-    ∙ rw (texts es, length-map es keptOf) refl
+    ∙ append_assoc (firstLine ++ collect entryText es) (lastLine (length es)) (ascii "\n")
+    ∙ append_assoc firstLine (collect entryText es) (lastLine (length es) ++ ascii "\n") ∙ rw (texts es, length-map es keptOf) refl
 
 module _ (name : Bytes) (es : List Entry) (i : ℕ) (e : Entry) (within : i < length es) (is : e ≡ get_or es i e) where
   abbrev is-named : Kept → Bool
@@ -34,5 +33,6 @@ module _ (name : Bytes) (es : List Entry) (i : ℕ) (e : Entry) (within : i < le
   pub kept-here : pointwise eqb e.name.items name ≡ true → true ≡ isKept name (map keptOf es)
   kept-here h = sym (list_any_at is-named (map keptOf es) i (keptOf e) (rw (length-map es keptOf) within) (ap is-named here ∙ h))
 
-  pub not-yet : pointwise eqb e.name.items name ≡ false → isKept name (take i (map keptOf es)) ≡ false → isKept name (take (i + 1) (map keptOf es)) ≡ false
+  pub not-yet : pointwise eqb e.name.items name ≡ false → isKept name (take i (map keptOf es)) ≡ false
+      → isKept name (take (i + 1) (map keptOf es)) ≡ false
   not-yet h before = list_any_more is-named (map keptOf es) i (keptOf e) (rw (length-map es keptOf) within) ∙ rw (before, here) h

@@ -12,7 +12,8 @@ use Rattle.edition_certificate_file.specs.Reading.{betweenRead, digestIn, inside
 
 -- every definition of reading under one name
 unfoldable reading : Type 0
-unfolding encode_with decode_pairs collect decimal keptText keptsText betweenRead digestIn insideRead lineRead linesRead otherwise restRead textRead certificateRead
+unfolding encode_with decode_pairs collect decimal keptText keptsText betweenRead digestIn insideRead lineRead linesRead otherwise restRead textRead
+    certificateRead
 reading = Unit {0}
 
 abbrev readOf : String → Result (List Kept) Fault
@@ -23,7 +24,8 @@ a = record { name = ascii "a"; digest = replicate 32 171; lines = ascii "  ?x ~ 
 
 -- a certificate of the sheet a, up to its third line; and what stands behind that
 abbrev behindDigest : String → Result (List Kept) Fault
-behindDigest text = certificateRead (ascii "check_edition certificate 1\nsheet a\nsha256 abababababababababababababababababababababababababababababababab\n" ++ ascii text)
+behindDigest text =
+    certificateRead (ascii "check_edition certificate 1\nsheet a\nsha256 abababababababababababababababababababababababababababababababab\n" ++ ascii text)
 
 one-sheet : behindDigest "  ?x ~ Bool\nend\nsheets 1\n" ≡ Ok (a ∷ [])
 unfolding reading

@@ -8,7 +8,7 @@ ghost use Rattle.hex.specs.Hex.{encode_lower};
 ghost use Rattle.rules.specs.Base.{collect};
 ghost use Rattle.rules.specs.Grammar.{ascii};
 ghost use Rattle.rules.specs.Reports.{amount};
-ghost use Rattle.edition_certificate_file.specs.Files.{isEscaped, writtenByte, writtenName, Kept, keptOf, entryText, lastLine, certificateText, IsReadFrom};
+ghost use Rattle.edition_certificate_file.specs.Files.{isEscaped, writtenByte, writtenName, keptOf, entryText, lastLine, certificateText, IsReadFrom};
 ghost use Rattle.edition_certificate_file.specs.Reading.{
   between,
   isKept,

@@ -7,4 +7,5 @@ use Rattle.edition_certificate_file.proofs.sheets_of.Given as goal
 abbrev pub invariant-loop-k : goal.invariant-loop-k
 invariant-loop-k l =
     (goal.iterator-loop-k).can_next l.k-iterator × (goal.iterator-loop-k).is_finite l.k-iterator
-    × (linesRead (length l.yielded + 2) (reached l.entries l.stage) (drop (length l.yielded) (slice_split lineFeed l.lines)) ≡ linesRead 2 ([], between) (slice_split lineFeed l.lines))
+    × (linesRead (length l.yielded + 2) (reached l.entries l.stage) (drop (length l.yielded) (slice_split lineFeed l.lines))
+    ≡ linesRead 2 ([], between) (slice_split lineFeed l.lines))
