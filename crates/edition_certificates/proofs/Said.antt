@@ -16,6 +16,7 @@ use Rattle.records.specs.Views.{recs}
 use Rattle.judge_entries.proofs.Given.{type-is}
 use Rattle.library_pairs.specs.Pairs.{entriesIn}
 use Rattle.types.specs.Sets.{HoldsCons}
+use Rattle.types.specs.Runs.{HoldsEach}
 use Rattle.edition_certificates.specs.Certificates.{lineOf, saying, pairOf, pairsOf, boundTo, bindingsIn}
 
 some-some : {x y : ℕ} → ◌≡◌ {A = Option ℕ} (some x) (some y) → x ≡ y
@@ -57,7 +58,7 @@ module _ (pool table s : List ℕ) (w : Words32 s) where
   pub bindings-are : (ds : List (Con ℕ)) (at : ℕ) (bs : List (Binding ℕ)) → HoldsCons s ds at
       → each bound (entriesIn (pairsOf at ds)) ≡ got bs
       → bs ≡ bindingsIn ds
-  unfolding each pairsOf entriesIn bindingsIn HoldsCons HoldsCon lineOf
+  unfolding each pairsOf entriesIn bindingsIn HoldsEach HoldsCon lineOf
   bindings-are [] at bs h e = let q : [] ≡ bs = cc in sym q
   bindings-are (equal l r ∷ ds) at bs h e = go (asVar l) refl (λ cs f. bindings-are ds (at + sizeCon (equal l r)) cs h.1 f) e
     where

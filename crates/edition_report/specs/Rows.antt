@@ -13,7 +13,8 @@ use Rattle.records.specs.Parsed.{only}
 use Rattle.records.specs.Places.{seen-in}
 use Rattle.types.specs.Once.{ATree}
 use Rattle.types.specs.Sets.{HoldsCons, IsCons}
-use Rattle.replace.specs.Runs.{HoldsAll}
+use Rattle.types.specs.Runs.{HoldsEach}
+use Rattle.types.specs.Binds.{HoldsBinds}
 use Rattle.solve_finish.specs.Told.{IsSolved}
 use Rattle.records.specs.Views.{viewAt, longAt}
 use Rattle.records.specs.declared.Open as opens
@@ -194,10 +195,10 @@ module _ (s : List ℕ) where
   bounds-rows (x ∷ ns) at h = let k : at + 1 + length ns ≡ at + length (x ∷ ns) = omega arith in (at + 1, ((h.0, refl), rw k at (bounds-rows ns (at + 1) h.1)))
 
   -- bindings, and then other rows
-  binds-rows : (bs : List (Binding ℕ)) (rs : List Row) (at end : ℕ) → HoldsAll HoldsBinding sizeBinding s bs at
+  binds-rows : (bs : List (Binding ℕ)) (rs : List Row) (at end : ℕ) → HoldsBinds s bs at
       → Chain RowHere end rs (at + sum_of sizeBinding bs)
       → Chain RowHere end (map binding bs ++ rs) at
-  unfolding HoldsAll
+  unfolding HoldsEach
   binds-rows [] rs at end h c = let z : at + 0 ≡ at = omega arith in rw z at c
   binds-rows (b ∷ bs) rs at end h c =
       let k : at + (sizeBinding b + sum_of sizeBinding bs) ≡ at + sizeBinding b + sum_of sizeBinding bs = omega arith in
@@ -207,10 +208,10 @@ module _ (s : List ℕ) where
   solved-rows b n bs ns h =
       let k : b + length ns ≡ b + n = omega (arith, h.bounds.ends) in
       let c = rw k at (bounds-rows ns b h.bounds.held) in
-      record { chain = binds-rows bs (map bound ns) 0 (b + n) h.binds.held (subst (λ (i : ℕ). Chain RowHere (b + n) (map bound ns) i) h.binds.past c) }
+      record { chain = binds-rows bs (map bound ns) 0 (b + n) h.binds.held (subst (λ (i : ℕ). Chain RowHere (b + n) (map bound ns) i) h.binds.ends c) }
 
   left-chain : (cs : List (Con ℕ)) (at : ℕ) → HoldsCons s cs at → Chain RowHere (at + sum_of sizeCon cs) (map left cs) at
-  unfolding HoldsCons
+  unfolding HoldsEach
   left-chain [] at h = sym (add-zero at)
   left-chain (c ∷ cs) at h =
       let k : at + sizeCon c + sum_of sizeCon cs ≡ at + (sizeCon c + sum_of sizeCon cs) = omega arith in

@@ -17,6 +17,7 @@ use Rattle.records.specs.Found.{Words32}
 use Rattle.records.specs.Good.{Chain, GoodCon, numbers}
 use Rattle.records.specs.Whole.{entry-good, set_is}
 use Rattle.types.specs.Sets.{HoldsCons, IsCons, Cons, one-set}
+use Rattle.types.specs.Runs.{HoldsEach}
 use Rattle.queries.specs.Marks.{Small}
 use Rattle.queries.specs.Runs.{set-small, set-opens}
 use Rattle.queries.specs.Scans.{opensIn}
@@ -119,7 +120,7 @@ module _ (pool table ws : List ℕ) where
 
 module _ (pool table s : List ℕ) (e : ℕ) where
   pub held-set : (cs : List (Con ℕ)) (at : ℕ) → Chain (GoodCon pool table 0 s) e cs at → IsCons s at e cs
-  unfolding HoldsCons
+  unfolding HoldsEach
   held-set [] at c = record { held = tt; ends = omega (arith, c) }
   held-set (x ∷ cs) at c =
       let r = held-set cs c.0 c.1.1 in

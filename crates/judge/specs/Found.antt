@@ -26,15 +26,17 @@ use Rattle.records.specs.declared.Open.TheVariants as opens
 use Rattle.records.specs.declared.View.TheVariants as view
 use Rattle.queries.specs.declared.name_set.NameSet.{NameSet}
 use Rattle.queries.specs.Marks.{Has}
+use Rattle.types.specs.Binds.{IsBinds}
+use Rattle.types.specs.Puts.{binds-in}
 use Rattle.replace.specs.Kept.{binds-weaker}
-use Rattle.replace.specs.Runs.{HoldsAll, Run, looked-good}
+use Rattle.replace.specs.Runs.{looked-good}
 use Rattle.replace.specs.Well.{Listed, Lent}
 use Rattle.judge_proposals.specs.Bounds.{BoundsThere}
 use Rattle.judge_trials.specs.Trials.{Put}
 
 -- bindings in the records up to b, and n bounds behind them, all well formed
 pub record FoundThere (pool table found : List ℕ) (b n : ℕ) (bs : List (Binding ℕ)) (ns : List ℕ) : Type 0 where
-  pub binds : Run found 0 b bs
+  pub binds : IsBinds found 0 b bs
   pub bounds : HoldsBounds found (map (λ n. var n) ns) b
   pub many : n ≡ length ns
   pub good : all (goodBinding (numbers pool table) (holding pool table) 0) bs ≡ true
@@ -77,21 +79,6 @@ unfolding HoldsBounds
 bounds-in s [] at le h = omega arith
 bounds-in s (n ∷ ns) at le h = let i = seen-in s at h.0.0 tt in omega (arith, bounds-in s ns (at + 1) (omega (arith, i)) h.1)
 
-run-in : (s : List ℕ) (bs : List (Binding ℕ)) (at : ℕ) → at ≤ length s / 4 → HoldsAll HoldsBinding sizeBinding s bs at
-    → at + sum_of sizeBinding bs ≤ length s / 4
-unfolding HoldsAll
-run-in s [] at le h = omega arith
-run-in s (b ∷ bs) at le h = omega (arith, run-in s bs (at + sizeBinding b) (binding-in s b at h.0) h.1)
-
-recs-back : (rs : List Rec) → recs (words rs) ≡ rs
-unfolding recs words
-recs-back [] = refl
-recs-back (rec k a b c ∷ rs) = ap (rec k a b c ∷◌) (recs-back rs)
-
-from-back : (rs : List Rec) → from (words rs) 0 ≡ rs
-unfolding from
-from-back rs = recs-back rs
-
 chain : (pool table s ns : List ℕ) (at : ℕ) → from s at ≡ boundRecs ns → Every (λ n. holding pool table n ≡ true) ns
     → Chain (GoodBound pool table 0 s) (at + length ns) (map (λ n. var n) ns) at
 unfolding goodOpen writeBound
@@ -103,7 +90,7 @@ chain pool table s (n ∷ ns) at e h =
 
 module _ (pool table found : List ℕ) (b n : ℕ) (bs : List (Binding ℕ)) (ns : List ℕ) (h : FoundThere pool table found b n bs ns) where
   within : b ≤ length found / 4
-  within = omega (arith, run-in found bs 0 (omega arith) h.binds.held, h.binds.past)
+  within = omega (arith, binds-in found bs 0 (omega arith) h.binds.held, h.binds.ends)
 
   -- where they end
   pub ends-in : b * 4 + n * 4 ≤ length found

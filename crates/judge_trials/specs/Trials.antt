@@ -40,6 +40,7 @@ use Rattle.replace.specs.Well.{Lent}
 use Rattle.replace.specs.Written.{written-cons}
 use Rattle.types.specs.declared.writer.Writer.{Writer}
 use Rattle.types.specs.Sets.{Cons, HoldsCons, IsCons, con-some, one-set}
+use Rattle.types.specs.Runs.{HoldsEach}
 use Rattle.types.specs.Written.{last}
 
 -- ══ 6 counts as failure ══
@@ -150,7 +151,7 @@ module _ (by : Substitution) (c : Con ℕ) where
     -- what was put in is well formed, and stands in the buffer
     pub written : {w w' : Writer} → w.at ≡ 0 → length w.words.now ≡ 8192 → (k : Came writeCon w w' (conBy by c))
         → ConStands pool table w'.words.now w'.at k.value
-    unfolding all collect HoldsCons
+    unfolding all collect HoldsEach
     written {w} {w'} front room k =
         let l = cut-length (writeCon k.value) in
         let m = size-con k.value in

@@ -21,6 +21,15 @@ got≢refused e = let z : ◌≡◌ {A = ℕ} 0 1 = cc in omega arith
 pub clash : {A B : Type 0} {n : ℕ} {b : B} → refused n ≡ got b → A
 clash e = absurd (got≢refused (sym e))
 
+-- a refusal tells its number
+pub same-number : {A : Type 0} {i j : ℕ} → ◌≡◌ {A = Got A} (refused i) (refused j) → i ≡ j
+same-number e = cc
+
+-- what refuses, refuses before a value is made of it
+pub refused-before : {A B : Type 0} (m : Got A) (g : A → B) (n : ℕ) → refused n ≡ (m >>= λ a. got (g a)) → m ≡ refused n
+refused-before (got a) g n e = clash e
+refused-before (refused k) g n e = ap refused (sym (same-number e))
+
 -- two steps after one another, bracketed to the right
 pub bracket : {A B C : Type 0} (m : Got A) (f : A → Got B) (g : B → Got C) → ((m >>= f) >>= g) ≡ (m >>= λ a. f a >>= g)
 bracket (got a) f g = refl

@@ -25,6 +25,7 @@ use Rattle.queries.specs.GoodOpens.{names-small}
 use Rattle.replace.specs.Kept.{cons-weaker}
 use Rattle.replace.specs.Written.{written-cons}
 use Rattle.types.specs.Sets.{HoldsCons, IsCons}
+use Rattle.types.specs.Runs.{HoldsEach}
 use Rattle.lines.specs.Slices.{slice-there, own-slice}
 use Rattle.judge_trials.specs.Trials.{SetThere}
 use Rattle.solve.specs.Running.{Begun}
@@ -89,7 +90,7 @@ module _ (pool table : List ℕ) where
     Part at c e = HoldsCon set c at × (e ≡ at + sizeCon c)
 
     parts : (cs : List (Con ℕ)) (at end : ℕ) → HoldsCons set cs at → end ≡ at + sum_of sizeCon cs → Chain Part end cs at
-    unfolding HoldsCons
+    unfolding HoldsEach
     parts [] at end h e = omega (arith, e)
     parts (c ∷ cs) at end h e = (at + sizeCon c, ((h.0, refl), parts cs (at + sizeCon c) end h.1 (omega (arith, e))))
 

@@ -1,14 +1,14 @@
 -- What was made, handed over: its records in the result buffer, and the work buffer all zero.
-use Rattle.std.specs.Prelude.{Result, Ok, Err, ◌≡◌, refl, List, ◌++◌, ℕ, ◌*◌, ◌≤◌, length, drop, replicate}
-use Rattle.std.proofs.Common.{sym, ap, subst, ◌∙◌, zero-add, arith}
+use Rattle.std.specs.Prelude.{Result, Ok, Err, ◌≡◌, refl, List, ◌++◌, ℕ, ◌+◌, ◌*◌, ◌≤◌, length, take, drop, replicate}
+use Rattle.std.proofs.Common.{sym, ap, subst, ◌∙◌, zero-add, arith, take_at}
 use Rattle.std.proofs.lemmas.List.Edits.{sets, sets-eq}
-use Rattle.std.proofs.Math.Seq.{slice}
+use Rattle.std.proofs.Math.Seq.{slice, length-sets}
 use Rattle.rules.specs.Base.{Got, got, refused, ◌>>=◌}
 use Rattle.rules.specs.Calls.{over, resultAfter, writing, workAfter}
 use Rattle.rules.specs.Refusals.{number_of}
 use Rattle.rules.specs.Writing.{Rec, words}
 use Rattle.rules.specs.declared.Refusal.{Refusal}
-use Rattle.laws.specs.Lists.{clash}
+use Rattle.laws.specs.Lists.{clash, refused-before}
 use Rattle.records.specs.Buffers.{words-length}
 use Rattle.records_buffers.specs.Told.{writtenAs, handed, Front, Made}
 
@@ -16,9 +16,22 @@ counted : (m : Got (List Rec)) (n : ℕ) → got n ≡ (m >>= λ rs. got (length
 counted (got rs) n e = let z : n ≡ length rs = cc in (rs, (refl, z))
 counted (refused k) n e = clash (sym e)
 
-uncounted : (m : Got (List Rec)) (k : ℕ) → refused k ≡ (m >>= λ rs. got (length rs)) → m ≡ refused k
-uncounted (got rs) k e = clash e
-uncounted (refused j) k e = cc
+-- made: a refusal
+pub made-refused : {m : Got (List Rec)} {w : List ℕ} (k : Refusal) → m ≡ refused (number_of k) → Made m w (Err k)
+made-refused k e = record { answer = sym (rw e); front = λ rs i. clash (sym e ∙ i) }
+
+-- made: these records, written from the start
+pub made-records : (m : Got (List Rec)) (rs : List Rec) (d d' : List ℕ) (n : ℕ) → m ≡ got rs → 16384 ≤ length d → d' ≡ sets d 0 (words rs)
+    → n ≡ length rs → n ≤ 2048 → Made m d' (Ok n)
+made-records m rs d d' n i room e q le =
+    let k = words-length rs in
+    let z : d' ≡ words rs ++ drop (0 + length (words rs)) d = e ∙ sets-eq (words rs) d 0 (omega arith) in
+    let f : Front rs d' = record {
+      few = omega (arith, q);
+      room = omega (arith, ap length e ∙ length-sets d 0 (words rs));
+      there = ap (take (length rs * 4)) z ∙ take_at (words rs) (drop (0 + length (words rs)) d) (length rs * 4) k;
+    } in
+    record { answer = rw (i, q); front = λ ss h. let same : rs ≡ ss = let z : got rs ≡ got ss = sym i ∙ h in cc in rw (sym same) f }
 
 -- the records that stand at the front
 module _ (m : Got (List Rec)) (w : List ℕ) where
@@ -55,7 +68,7 @@ module _ (m : Got (List Rec)) (w : List ℕ) where
     pub left : {r : Result ℕ Refusal} (k : Refusal) (z : List ℕ) → r ≡ Err k → Made m w r → z ≡ replicate (length w) 0
         → writtenAs (Err k) result z ≡ handed m result w
     unfolding resultAfter
-    left k z i h c = let e = uncounted m (number_of k) (subst (λ (a : Result ℕ Refusal). Made m w a) i h).answer in rw (e, c)
+    left k z i h c = let e = refused-before m length (number_of k) (subst (λ (a : Result ℕ Refusal). Made m w a) i h).answer in rw (e, c)
 
 -- a call whose buffers are long enough, as the paper puts it together; and one whose buffers are not
 module _ (room : Got (Unit {0})) (m : Got (List Rec)) (result work : List ℕ) where

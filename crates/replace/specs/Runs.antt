@@ -18,16 +18,9 @@ use Rattle.records.specs.Views.{viewAt}
 use Rattle.records.specs.Holds.{Holds, HoldsBinding}
 use Rattle.records.specs.ByView.{ends-in}
 use Rattle.records.specs.declared.View.TheVariants as view
-
--- one after another, each as long as `long` says
-unfoldable pub HoldsAll : {A : Type 0} → (List ℕ → A → ℕ → Type 0) → (A → ℕ) → List ℕ → List A → ℕ → Type 0
-HoldsAll one long s [] at = Unit {0}
-HoldsAll one long s (a ∷ as') at = one s a at × HoldsAll one long s as' (at + long a)
-
--- v holds the bindings bs from b up to e
-pub record Run (v : List ℕ) (b e : ℕ) (bs : List (Binding ℕ)) : Type 0 where
-  pub held : HoldsAll HoldsBinding sizeBinding v bs b
-  pub past : e ≡ b + sum_of sizeBinding bs
+use Rattle.types.proofs.FieldsFound.{named-same}
+use Rattle.types.specs.Binds.{IsBinds}
+use Rattle.types.specs.Runs.{HoldsEach}
 
 -- the places of a type that was found, from its first record up to its end
 abbrev pub Found : Type 0
@@ -77,12 +70,12 @@ module _ (v : List ℕ) where
     pub is : bs ≡ name ≔ type ∷ rest
     pub shows : viewAt v b ≡ view.Binding name
     pub held : Holds v type (b + 1)
-    pub run : Run v (b + 1 + size type) e rest
+    pub run : IsBinds v (b + 1 + size type) e rest
     pub within : b + 1 + size type ≤ length v / 4
 
-  pub run-first : (b e : ℕ) (bs : List (Binding ℕ)) → Run v b e bs → b < e → First b e bs
-  unfolding HoldsAll HoldsBinding sizeBinding
-  run-first b e [] r lt = absurd (omega (arith, r.past))
+  pub run-first : (b e : ℕ) (bs : List (Binding ℕ)) → IsBinds v b e bs → b < e → First b e bs
+  unfolding HoldsEach HoldsBinding sizeBinding
+  run-first b e [] r lt = absurd (omega (arith, r.ends))
   run-first b e (x ≔ t ∷ bs) r lt =
       let q : b + suc (size t) ≡ b + 1 + size t = omega arith in
       record {
@@ -92,31 +85,27 @@ module _ (v : List ℕ) where
         is = refl;
         shows = r.held.0.0;
         held = r.held.0.1;
-        run = record { held = rw q at r.held.1; past = omega (arith, r.past) };
+        run = record { held = rw q at r.held.1; ends = omega (arith, r.ends) };
         within = ends-in v t (b + 1) r.held.0.1;
       }
 
-  pub run_none : (b e : ℕ) (bs : List (Binding ℕ)) → Run v b e bs → e ≤ b → bs ≡ []
+  pub run_none : (b e : ℕ) (bs : List (Binding ℕ)) → IsBinds v b e bs → e ≤ b → bs ≡ []
   unfolding sizeBinding
   run_none b e [] r le = refl
-  run_none b e (x ≔ t ∷ bs) r le = absurd (omega (arith, r.past))
+  run_none b e (x ≔ t ∷ bs) r le = absurd (omega (arith, r.ends))
 
-  pub run-order : (b e : ℕ) (bs : List (Binding ℕ)) → Run v b e bs → b ≤ e
-  run-order b e bs r = omega (arith, r.past)
+  pub run-order : (b e : ℕ) (bs : List (Binding ℕ)) → IsBinds v b e bs → b ≤ e
+  run-order b e bs r = omega (arith, r.ends)
 
   -- a place that binds x, or another
   module _ (names : List Bytes) (b e x : ℕ) (bs : List (Binding ℕ)) (f : First b e bs) where
-    picks : (d : Dec (x ≡ f.name)) → is_yes d ≡ eqb x f.name
-    picks (yes p) = sym (eq-eqb x f.name p)
-    picks (no n) = sym (ne_eqb x f.name n)
-
     pub find-here : eqb x f.name ≡ true → find (numbered names) bs x ≡ some f.type
     unfolding find numbered
-    find-here h = rw (f.is, find, picks (ℕ_discrete x f.name), h)
+    find-here h = rw (f.is, find, named-same x f.name (ℕ_discrete x f.name), h)
 
     pub find-on : eqb x f.name ≡ false → find (numbered names) bs x ≡ find (numbered names) f.rest x
     unfolding find numbered
-    find-on h = rw (f.is, find, picks (ℕ_discrete x f.name), h)
+    find-on h = rw (f.is, find, named-same x f.name (ℕ_discrete x f.name), h)
 
 -- what is found is shorter than the run
 pub found-short : (ν : Names ℕ) (bs : List (Binding ℕ)) (x : ℕ) (t : Ty ℕ) → find ν bs x ≡ some t → suc (size t) ≤ sum_of sizeBinding bs

@@ -10,7 +10,7 @@ use Rattle.rules.specs.WellFormed.{goodFactor, goodProduct, goodTy, goodTys, goo
 use Rattle.products.specs.Told.{Tree, given}
 use Rattle.products.specs.declared.Product.{Product}
 use Rattle.records.specs.Holds.{Holds}
-use Rattle.replace.specs.Runs.{Run}
+use Rattle.types.specs.Binds.{IsBinds}
 use Rattle.replace.specs.Places.{Tabled}
 
 module _ (pool table : List ℕ) where
@@ -50,7 +50,7 @@ module _ (pool table : List ℕ) where
 
   -- a run of well formed bindings, of at most 2,048 records, in a list that is not too long
   pub record Listed (v : List ℕ) (b e : ℕ) (bs : List (Binding ℕ)) : Type 0 where
-    pub run : Run v b e bs
+    pub run : IsBinds v b e bs
     pub good : all (goodBinding names (is_held (table_of pool table)) 4_294_967_296) bs ≡ true
     pub short : e ≤ b + 2048
     pub near : length v ≤ 4_000_000_000

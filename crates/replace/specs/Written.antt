@@ -53,7 +53,7 @@ use Rattle.records.specs.Held.{held, product-held, parted, shown}
 use Rattle.records.specs.declared.View.TheVariants as view
 use Rattle.types.specs.Binds.{HoldsBinds, IsBinds}
 use Rattle.types.specs.Sets.{HoldsCons, IsCons}
-use Rattle.replace.specs.Runs.{HoldsAll, Run}
+use Rattle.types.specs.Runs.{HoldsEach}
 use Rattle.replace.specs.Well as well
 
 -- ══ Well formed numerators fit a word ══
@@ -166,7 +166,7 @@ module _ (pool table : List ℕ) where
 
     cons-held : (cs : List (Con ℕ)) (at : ℕ) (rest : List Rec) → Every (well.GoodCon pool table) cs → from s at ≡ collect writeCon cs ++ rest
         → HoldsCons s cs at
-    unfolding HoldsCons collect
+    unfolding HoldsEach collect
     cons-held [] at rest g e = tt
     cons-held (c ∷ cs) at rest g e =
         let (u, v) = parted s (writeCon c) (collect writeCon cs) rest at (sizeCon c) (size-con c) e in
@@ -174,7 +174,7 @@ module _ (pool table : List ℕ) where
 
     pub binds-held : (bs : List (Binding ℕ)) (at : ℕ) (rest : List Rec) → Every (well.GoodBinding pool table) bs → from s at ≡ collect writeBinding bs ++ rest
         → HoldsBinds s bs at
-    unfolding HoldsBinds collect
+    unfolding HoldsEach collect
     binds-held [] at rest g e = tt
     binds-held (b ∷ bs) at rest g e =
         let (u, v) = parted s (writeBinding b) (collect writeBinding bs) rest at (sizeBinding b) (size-binding b) e in
@@ -211,12 +211,3 @@ module _ (pool table : List ℕ) where
         cons = record { held = cons-held d' cs 0 _ g u; ends = omega arith };
         binds = record { held = binds-held d' bs (sum_of sizeCon cs) _ h (rw (zero-add (sum_of sizeCon cs)) at v); ends = refl };
       }
-
--- bindings as a run
-run-held : (s : List ℕ) (bs : List (Binding ℕ)) (at : ℕ) → HoldsBinds s bs at → HoldsAll HoldsBinding sizeBinding s bs at
-unfolding HoldsAll HoldsBinds
-run-held s [] at h = tt
-run-held s (b ∷ bs) at h = (h.0, run-held s bs (at + sizeBinding b) h.1)
-
-pub as-run : (s : List ℕ) (bs : List (Binding ℕ)) (at end : ℕ) → IsBinds s at end bs → Run s at end bs
-as-run s bs at end h = record { held = run-held s bs at h.held; past = h.ends }

@@ -31,7 +31,7 @@ use Rattle.replace.specs.Leaves.{Leaves}
 use Rattle.replace.specs.Runs.{looked-good}
 use Rattle.replace.specs.Substitutions.{ALook, one-look}
 use Rattle.replace.specs.Well.{GoodCon, GoodTy, Lent, Listed}
-use Rattle.replace.specs.Written.{as-run, ty-fits, written-cons}
+use Rattle.replace.specs.Written.{ty-fits, written-cons}
 use Rattle.types.specs.Fine.{FineBindings}
 use Rattle.types.specs.declared.Bindings.{Bindings}
 use Rattle.types.specs.declared.writer.Writer.{Writer}
@@ -140,7 +140,7 @@ module _ (pool table : List ℕ) where
 -- bindings that passed their test, as they are noted
 pub listed : (pool table : List ℕ) (b : Bindings) → FineBindings pool table b.trees.0 → Listed pool table b.words.now b.at b.end b.trees.0
 listed pool table b f = record {
-  run = as-run b.words.now b.trees.0 b.at b.end b.trees.1;
+  run = b.trees.1;
   good = is_all (goodBinding (numbers pool table) (holding pool table) 4_294_967_296) b.trees.0
       (every-all _ b.trees.0 (binds-weaker pool table b.trees.0 f.good));
   short = omega (arith, b.trees.1.ends, f.small);

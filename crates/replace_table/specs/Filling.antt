@@ -21,7 +21,8 @@ use Rattle.records.specs.Holds.{Holds}
 use Rattle.records.specs.Views.{viewAt}
 use Rattle.records.specs.declared.View.TheVariants as view
 use Rattle.replace.specs.Places.{word_of, SaysAt}
-use Rattle.replace.specs.Runs.{Run, First, run-first, run_none, run-order, find-here, find-on, looked-short, looked-good}
+use Rattle.types.specs.Binds.{IsBinds}
+use Rattle.replace.specs.Runs.{First, run-first, run_none, run-order, find-here, find-on, looked-short, looked-good}
 use Rattle.replace.specs.Well.{names, Listed, Lent}
 
 -- a word is kept that was set before
@@ -47,10 +48,10 @@ module _ (v : List ℕ) where
 
   pub record Going (bs : List (Binding ℕ)) (places : List ℕ) (i e : ℕ) : Type 0 where
     pub rest : List (Binding ℕ)
-    pub run : Run v i e rest
+    pub run : IsBinds v i e rest
     pub words : (names : List Bytes) (x : ℕ) → x < 256 → SoFar (get_or places x 0) (find (numbered names) bs x) (find (numbered names) rest x)
 
-  pub going_start : (bs : List (Binding ℕ)) (places : List ℕ) (b e : ℕ) → places ≡ replicate 256 0 → Run v b e bs → Going bs places b e
+  pub going_start : (bs : List (Binding ℕ)) (places : List ℕ) (b e : ℕ) → places ≡ replicate 256 0 → IsBinds v b e bs → Going bs places b e
   going_start bs places b e q r = record {
     rest = bs;
     run = r;
@@ -103,7 +104,7 @@ module _ (v : List ℕ) where
         → ((t : Ty ℕ) → Holds v t (i + 1) → q ≡ i + 1 + size t) → Going bs places' q e
     going_on {q} {places'} n h = record {
       rest = first.rest;
-      run = subst (λ (k : ℕ). Run v k e first.rest) (sym (h first.type first.held)) first.run;
+      run = subst (λ (k : ℕ). IsBinds v k e first.rest) (sym (h first.type first.held)) first.run;
       words = λ names x k. subst (λ (l : List ℕ). SoFar (get_or l x 0) (find (numbered names) bs x) (find (numbered names) first.rest x))
           (sym (n first.name first.shows)) (pick names x k (ℕ_discrete x first.name));
     }
@@ -189,7 +190,7 @@ module _ (pool table places v : List ℕ) (b e : ℕ) (bs : List (Binding ℕ)) 
   filled = record {
     tabled = record {
       says = word (names pool table) places v bs long below says;
-      few = λ o t q. omega (arith, looked-short (names pool table) bs o t q, h.short, h.run.past);
+      few = λ o t q. omega (arith, looked-short (names pool table) bs o t q, h.short, h.run.ends);
     };
     good = λ o t q. looked-good (names pool table) (is_held (table_of pool table)) 4_294_967_296 bs o t h.good q;
     near = h.near;

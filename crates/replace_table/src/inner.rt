@@ -3,7 +3,7 @@ ghost use Rattle.std.specs.Prelude.{◌≡◌, List, ℕ, ◌+◌, ◌≤◌, le
 ghost use Rattle.rules.specs.Trees.{Binding};
 ghost use Rattle.records.specs.Views.{viewAt};
 ghost use Rattle.records.specs.declared.View;
-ghost use Rattle.replace.specs.Runs.{Run};
+ghost use Rattle.types.specs.Binds.{IsBinds};
 ghost use Rattle.replace_table.specs.Filling.{noted, Fills};
 
 use queries::inner::end_of;
@@ -29,7 +29,7 @@ fn note(v: &[u32], at: usize, places: &mut [u32])
 /// Notes the bindings from a place up to an end in a table of 256 words that is empty: for each variable the place of the type that its first binding
 /// binds it to.
 pub fn fill(v: &[u32], b: usize, e: usize, places: &mut [u32])
-    requires run { (bs : List (Binding ℕ)) × Run v.now b e bs }
+    requires run { (bs : List (Binding ℕ)) × IsBinds v.now b e bs }
     requires near { length v.now ≤ 4000000000 }
     requires empty { places.old ≡ replicate 256 0 }
     ensures { Fills v.now b e places.new }

@@ -27,6 +27,7 @@ use Rattle.replace.specs.Written.{written-cons}
 use Rattle.types.specs.Binds.{HoldsBinds}
 use Rattle.types.specs.Puts.{set-words}
 use Rattle.types.specs.Sets.{HoldsCons, IsCons}
+use Rattle.types.specs.Runs.{HoldsEach}
 use Rattle.solve_round.specs.States.{Placed, Rounded, SoundSet, Stands}
 use Rattle.std.specs.Prelude.{Result, Ok, Err}
 use Rattle.solve_finish.specs.Told.{Finished}
@@ -45,7 +46,7 @@ module _ (pool table : List ℕ) where
   -- copied to the front of a buffer it is a state
   pub begun-state : (ws d d' : List ℕ) (n : ℕ) (cs : List (Con ℕ)) → Begun ws cs → n ≡ length ws / 4 → 8192 ≤ length d → d' ≡ sets d 0 (slice 0 (n * 4) ws)
       → Placed pool table d' (record { start = 0; stuck = 0; ends = record { constraints = n; bindings = n } }) (start cs)
-  unfolding HoldsBinds HoldsCons all
+  unfolding HoldsEach all
   begun-state ws d d' n cs b i room e =
       let m : 0 + sum_of sizeCon cs ≡ n = omega (arith, b.held.ends, i) in
       let h : IsCons ws 0 n cs = rw i b.held in

@@ -54,11 +54,12 @@ use Rattle.queries.specs.Scans.{choose, opensIn}
 use Rattle.queries.specs.declared.Kind.TheVariants.{Both}
 use Rattle.replace.specs.Kept.{cons-weaker, binds-weaker}
 use Rattle.replace.proofs.Writes.{words_append, writes}
-use Rattle.replace.specs.Written.{written-cons, binds-held, as-run}
+use Rattle.replace.specs.Written.{written-cons, binds-held}
 use Rattle.solve_round.specs.States.{StateHeld}
 use Rattle.solve_round.specs.declared.Place.{Place}
 use Rattle.types.specs.Puts.{binds-words as bound-words}
 use Rattle.types.specs.Sets.{HoldsCons, IsCons, Cons, con-some, one-set}
+use Rattle.types.specs.Runs.{HoldsEach}
 use Rattle.solve_finish.specs.declared.Finish.TheVariants.{Solved as Bound, Unsolved}
 use Rattle.solve_finish.specs.Told.{others, boundRec, bounds, Copied, Accepted, Finished}
 use Rattle.solve_finish.proofs.Others.{others-few}
@@ -136,7 +137,7 @@ module _ (s : List ℕ) where
   part c at e h = let z : e - at ≡ sizeCon c = omega (arith, h.1) in (omega (arith, h.1), rw z (con-opens s c at h.0))
 
   chained : (cs : List (Con ℕ)) (at n : ℕ) → HoldsCons s cs at → n ≡ at + sum_of sizeCon cs → Chain (λ at c e. HoldsCon s c at × (e ≡ at + sizeCon c)) n cs at
-  unfolding HoldsCons
+  unfolding HoldsEach
   chained [] at n h e = sym (e ∙ add-zero at)
   chained (c ∷ cs) at n h e = (at + sizeCon c, ((h.0, refl), chained cs (at + sizeCon c) n h.1 (omega (arith, e))))
 
@@ -242,11 +243,10 @@ module _ (pool table s : List ℕ) (p : Place) (st : State ℕ) (h : StateHeld p
         let v' : from d₂ (m - n) ≡ B ++ from d (0 + length (A ++ B)) = rw (zero-add (m - n)) at v in
         record {
           rows = record {
-            binds = as-run d₂ st.binds 0 (m - n)
-                (record {
-                  held = binds-held pool table d₂ st.binds 0 _ (binds-weaker pool table st.binds h.sound_binds.good) u;
-                  ends = omega (arith, h.binds.ends, a.0);
-                });
+            binds = record {
+              held = binds-held pool table d₂ st.binds 0 _ (binds-weaker pool table st.binds h.sound_binds.good) u;
+              ends = omega (arith, h.binds.ends, a.0);
+            };
             bounds = record { held = bounds-held d₂ (bounds pool table st) (m - n) _ v'; ends = omega (arith, listed.many) };
           };
           many = listed.many;

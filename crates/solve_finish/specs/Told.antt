@@ -10,7 +10,7 @@ use Rattle.rules.specs.Trees.{var, Con, Binding, sizeCon}
 use Rattle.rules.specs.Writing.{Rec, words, writeCon, writeBinding, writeBound}
 use Rattle.records.specs.Good.{numbers}
 use Rattle.records.specs.Holds.{HoldsBounds}
-use Rattle.replace.specs.Runs.{Run}
+use Rattle.types.specs.Binds.{IsBinds}
 use Rattle.types.specs.Sets.{IsCons}
 use Rattle.solve_finish.specs.declared.Finish.{Finish}
 use Rattle.solve_finish.specs.declared.Finish.TheVariants.{Solved as Bound, Unsolved}
@@ -38,7 +38,7 @@ pub record IsBounds (s : List ℕ) (at end : ℕ) (ns : List ℕ) : Type 0 where
 
 -- bindings in the records up to b, and n bounds behind them
 pub record IsSolved (s : List ℕ) (b n : ℕ) (bs : List (Binding ℕ)) (ns : List ℕ) : Type 0 where
-  pub binds : Run s 0 b bs
+  pub binds : IsBinds s 0 b bs
   pub bounds : IsBounds s b (b + n) ns
 
 -- the rows of an answer after k rounds stand at the front of a buffer, and f says how many they are

@@ -43,6 +43,7 @@ use Rattle.solve_step.specs.declared.Step as code
 use Rattle.solve_step.specs.declared.Step.TheVariants.{Bind, Split, Done, Stuck}
 use Rattle.types.specs.Binds.{Binds, IsBinds, one-binds}
 use Rattle.types.specs.Sets.{Cons, HoldsCons, IsCons, one-set}
+use Rattle.types.specs.Runs.{HoldsEach}
 use Rattle.solve_round.specs.declared.Others.{Others}
 use Rattle.solve_round.specs.Parts.{First, Taken}
 use Rattle.solve_round.specs.States.{SoundSet}
@@ -172,7 +173,7 @@ pub some-rule : {was d : List ℕ} {out : ℕ} {r : code.Step} {R : Got (Step �
 some-rule {was} {d} {out} {r} {R} s other e = other (let f = (subst (Stepped was d out (Ok r)) e s).says.0 in cc)
 
 pub nothing-there : (s : List ℕ) (at : ℕ) → IsCons s at at []
-unfolding HoldsCons
+unfolding HoldsEach
 nothing-there s at = record { held = tt; ends = omega arith }
 
 pub none-first : (s : List ℕ) → First s 0 []

@@ -23,7 +23,6 @@ use Rattle.replace.specs.Leaves.{Leaves}
 use Rattle.replace.specs.Runs.{looked-good}
 use Rattle.replace.specs.Substitutions.{ALook, one-look}
 use Rattle.replace.specs.Well.{names, Listed, Lent}
-use Rattle.replace.specs.Written.{as-run}
 use Rattle.replace_table.specs.Filling.{Fills}
 use Rattle.types.specs.declared.Bindings.{Bindings}
 use Rattle.types.specs.declared.writer.Writer.{Writer}
@@ -80,7 +79,7 @@ module _ (pool table : List ℕ) {b : Bindings} {x : ℕ} {t : Ty ℕ} (h : Boun
   pub listed : Listed pool table b.words.now b.at b.end one
   unfolding all
   listed = record {
-    run = as-run b.words.now one b.at b.end there;
+    run = there;
     good = and_both (binds-weaker pool table one good-one).0 refl;
     short = h.short;
     near = b.near;

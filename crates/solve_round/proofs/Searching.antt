@@ -15,6 +15,7 @@ use Rattle.solve_step.specs.Stepped.{Stepped}
 use Rattle.solve_step.specs.declared.Step as code
 use Rattle.types.specs.declared.Bindings.{Bindings}
 use Rattle.types.specs.Sets.{con-some, HoldsCons, IsCons, placed}
+use Rattle.types.specs.Runs.{HoldsEach}
 use Rattle.solve_round.specs.declared.Others.{Others}
 use Rattle.solve_round.specs.States.{Idle, SoundSet, SoundBinds}
 use Rattle.solve_round.specs.Parts.{after, performs, Are, Taken}
@@ -25,13 +26,13 @@ abbrev pub Rest : Type 0
 Rest = List (List ℕ × ℕ × Con ℕ)
 
 cons-join : (s : List ℕ) (cs ds : List (Con ℕ)) (at m : ℕ) → m ≡ at + sum_of sizeCon cs → HoldsCons s cs at → HoldsCons s ds m → HoldsCons s (cs ++ ds) at
-unfolding HoldsCons
+unfolding HoldsEach
 cons-join s [] ds at m e h k = let z : m ≡ at = omega (arith, e) in subst (HoldsCons s ds) z k
 cons-join s (c ∷ cs) ds at m e h k = (h.0, cons-join s cs ds (at + sizeCon c) m (omega (arith, e)) h.1 k)
 
 -- and apart again
 cons-part : (s : List ℕ) (cs ds : List (Con ℕ)) (at : ℕ) → HoldsCons s (cs ++ ds) at → HoldsCons s cs at × HoldsCons s ds (at + sum_of sizeCon cs)
-unfolding HoldsCons
+unfolding HoldsEach
 cons-part s [] ds at h = let z : at ≡ at + 0 = omega arith in (tt, subst (HoldsCons s ds) z h)
 cons-part s (c ∷ cs) ds at h =
     let r = cons-part s cs ds (at + sizeCon c) h.1 in
@@ -145,7 +146,7 @@ module _ (pool table : List ℕ) where
       pub is : left ≡ placed w (x.1 + sizeCon x.2) behind
 
     pub found : {now : Rest} (x : List ℕ × ℕ × Con ℕ) (left : Rest) → Search now → now ≡ x ∷ left → Found x left
-    unfolding HoldsCons all
+    unfolding HoldsEach all
     found {now} x left s e = go s.rest s.stay s.sound s.short s.decides (sym s.is ∙ e)
       where
         go : (cs : List (Con ℕ)) → IsCons w s.at n cs → SoundSet pool table cs → sum_of sizeCon cs ≤ 2048 → whole ≡ leads s.before cs bs
@@ -225,7 +226,7 @@ module _ (pool table : List ℕ) where
 
       -- or none does
       pub on : trySatisfy (numbers pool table) bounded c ≡ got stuck → Search left
-      unfolding HoldsCons all
+      unfolding HoldsEach all
       on stuck-here = record {
         before = f.before ++ c ∷ [];
         rest = f.behind;

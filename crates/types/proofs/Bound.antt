@@ -10,6 +10,7 @@ use Rattle.records.specs.declared.View.{View}
 use Rattle.records.specs.declared.View.TheVariants as view
 use Rattle.types.specs.Once.{ATree}
 use Rattle.types.specs.Binds.{HoldsBinds, IsBinds, Binds, binding-some, only-binds}
+use Rattle.types.specs.Runs.{HoldsEach}
 
 module _ (s : List ℕ) where
   pub no-binds : (at end : ℕ) (h : Binds s at end) → end ≤ at → [] ≡ h.0
@@ -25,7 +26,7 @@ module _ (s : List ℕ) where
       pub is : h.0 ≡ name ≔ to.0 ∷ rest.0
 
     first-binding : FirstBinding
-    unfolding HoldsBinds HoldsBinding sizeBinding
+    unfolding HoldsEach HoldsBinding sizeBinding
     first-binding = go h.0 h.1 refl
       where
         go : (bs : List (Binding ℕ)) → IsBinds s at end bs → h.0 ≡ bs → FirstBinding

@@ -15,6 +15,7 @@ use Rattle.types.specs.Fine.{Fine, FineBindings}
 use Rattle.types.specs.Once.{one-tree}
 use Rattle.types.specs.Rows.{Row, row}
 use Rattle.types.specs.Sets.{HoldsCons, one-set}
+use Rattle.types.specs.Runs.{HoldsEach}
 use Rattle.types.proofs.Tested.{Held}
 
 module _ (pool table ws : List ℕ) where
@@ -22,7 +23,7 @@ module _ (pool table ws : List ℕ) where
   N = length ws / 4
 
   pub set-row : (at : ℕ) (cs : List (Con ℕ)) → Chain (GoodCon pool table 0 ws) N cs at → Row (HoldsCons ws) sizeCon (goodCon pool table 0) N at cs
-  unfolding HoldsCons
+  unfolding HoldsEach
   set-row = row (HoldsCons ws) sizeCon (goodCon pool table 0) (GoodCon pool table 0 ws) (λ at. tt)
       (λ at c e cs g h. (g.held, subst (HoldsCons ws cs) g.past h)) (λ at c e g. (g.past, g.good)) N
 
@@ -32,7 +33,7 @@ module _ (pool table ws : List ℕ) where
 
   bindings-row : (at : ℕ) (bs : List (Binding ℕ)) → Chain (GoodBinding pool table 0 ws) N bs at
       → Row (HoldsBinds ws) sizeBinding (goodBinding pool table 0) N at bs
-  unfolding HoldsBinds
+  unfolding HoldsEach
   bindings-row = row (HoldsBinds ws) sizeBinding (goodBinding pool table 0) (GoodBinding pool table 0 ws) (λ at. tt)
       (λ at b e bs g h. (g.held, subst (HoldsBinds ws bs) g.past h)) (λ at b e g. (g.past, g.good)) N
 

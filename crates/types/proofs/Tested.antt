@@ -1,15 +1,16 @@
 -- The tests of a list over a name table: where one of them refuses, so does the whole; where all are passed, what the list holds is there.
-use Rattle.std.specs.Prelude.{Result, Ok, Err, ◌≡◌, refl, Bool, true, false, ◌&&◌, List, [], ◌∷◌, ℕ, ◌%◌, ◌≤◌, ◌<◌, eqb, leb, length}
-use Rattle.std.proofs.Common.{sym, ap, subst, ◌∙◌, le-leb}
+use Rattle.std.specs.Prelude.{Result, Ok, Err, IfOk, ◌≡◌, refl, Bool, true, false, ◌&&◌, List, [], ◌∷◌, ℕ, ◌%◌, ◌≤◌, ◌<◌, eqb, leb, length}
+use Rattle.std.proofs.Common.{sym, ap, ap₂, subst, ◌∙◌, le-leb}
 use Rattle.std.proofs.lemmas.Bool.{lt-leb}
 use borrow.Author.Tests.{leb-true, eqb-true}
-use Rattle.rules.specs.Base.{Got, got, refused, ◌>>◌, need, all}
+use Rattle.rules.specs.Base.{Got, got, refused, ◌>>=◌, ◌>>◌, need, all}
 use Rattle.rules.specs.Calls.{shortLists, tableKept}
-use Rattle.rules.specs.Names.{Table, table_of}
-use Rattle.rules.specs.Refusals.{told}
+use Rattle.rules.specs.Names.{Table, table_of, tableGiven, lentTable}
+use Rattle.rules.specs.Refusals.{number_of, told, toldBy}
 use Rattle.rules.specs.declared.Refusal.{Refusal}
 use Rattle.laws.specs.Checks.{need-passed}
-use Rattle.laws.specs.Lists.{clash, and_left, and_right}
+use Rattle.laws.specs.Lists.{clash, refused-before, and_left, and_right}
+use Rattle.names.specs.Told.{unit_of}
 use Rattle.names.specs.declared.tables.NameTable.{NameTable}
 use Rattle.types.specs.Given.{list_over, short_over}
 
@@ -30,10 +31,26 @@ pub as-refused : {A B : Type 0} (l : Got (Unit {0})) (n k : ℕ) → ◌≡◌ {
 as-refused (refused i) n k e = cc
 as-refused (got x) n k e = cc
 
--- what is only asked whether it is there, and isn't
-none : {A : Type 0} (m : Got A) (n : ℕ) → (m >> got (tt {0})) ≡ refused n → m ≡ refused n
-none (got a) n e = clash (sym e)
-none (refused k) n e = cc
+-- past a table that is kept, what comes before it and what is read over it come at once
+pub past_table : {A B : Type 0} (before table : Got (Unit {0})) (m : Got A) (g : A → Got B) → table ≡ got tt
+    → (before >> (table >> (m >>= g))) ≡ ((before >> m) >>= g)
+past_table (refused i) table m g e = refl
+past_table (got u) (got v) m g e = refl
+past_table (got u) (refused i) m g e = clash e
+
+-- A call over the table that was tested is the call, which asks for the table where `past` has it. Of `over_names` is known what it is over a table that is
+-- there, and where the table was refused.
+module _ {B : Type 0} (past : Table → Got (Unit {0}) → B) (pool table : List ℕ) (lent : lentTable pool table ≡ got tt) (over_names : Result NameTable Refusal → B)
+    (there : (n : NameTable) → over_names (Ok n) ≡ past (over n) (tableKept (over n)))
+    (missing : (why : Refusal) → over_names (Err why) ≡ past (table_of pool table) (refused (number_of why))) where
+  unkept : (k : ℕ) (kept_as : Got (Unit {0})) → refused k ≡ (lentTable pool table >> kept_as) → refused k ≡ kept_as
+  unkept k kept_as e = rw lent at e
+
+  pub tested : (names : Result NameTable Refusal) → toldBy unit_of names ≡ tableGiven pool table
+      → IfOk names (λ n. (n.pool.now ≡ pool) × (n.table.now ≡ table)) → over_names names ≡ past (table_of pool table) (tableKept (table_of pool table))
+  unfolding tableGiven tableKept
+  tested (Ok n) e i = there n ∙ ap₂ (λ (p t : List ℕ). past (table_of p t) (tableKept (table_of p t))) i.0 i.1
+  tested (Err why) e i = missing why ∙ ap (past (table_of pool table)) (unkept (number_of why) (tableKept (table_of pool table)) e)
 
 module _ (ws : List ℕ) where
   pub short : length ws ≤ 8192 → shortLists (ws ∷ []) ≡ got tt
@@ -73,7 +90,7 @@ module _ (ws : List ℕ) where
 
       pub not-passed : (b : Bool) → (f (over n) ws >> got (tt {0})) ≡ need (eqb (length ws % 4) 0 && b) 1 → {k : ℕ}
           → refused k ≡ need (eqb (length ws % 4) 0 && b) 1 → refused k ≡ list_over f names ws
-      not-passed b h {k} q = comes-to (none (f (over n) ws) k (h ∙ sym q))
+      not-passed b h {k} q = comes-to (refused-before (f (over n) ws) (λ x. tt) k (sym (h ∙ sym q)))
 
     -- a list that was given
     pub given : (n : NameTable) → names ≡ Ok n → (a : A) → got a ≡ list_over f names ws → (length ws ≤ 8192) × (f (over n) ws ≡ got a)

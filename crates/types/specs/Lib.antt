@@ -4,6 +4,7 @@ pub mod Given
 pub mod Once
 pub mod Puts
 pub mod Rows
+pub mod Runs
 pub mod Sets
 pub mod Shapes
 pub mod Written

@@ -8,6 +8,7 @@ use Rattle.rules.specs.Rounds.{pairs}
 use Rattle.rules.specs.Writing.{rec, head, words, writeTy, writeCon, writeBinding}
 use Rattle.records.specs.Cut.{fit, fits}
 use Rattle.laws.specs.Size.{size-con, set-length, bindings-length}
+use Rattle.records.specs.Holds.{HoldsBinding, HoldsCon}
 use Rattle.records.specs.Held.{held-words, con-written, binding-written}
 use Rattle.records.specs.Places.{words-from}
 use Rattle.records.specs.ByView.{con-in, binding-in, ends-in}
@@ -17,6 +18,7 @@ use Rattle.types.specs.declared.writer.Writer.{Writer}
 use Rattle.types.specs.Binds.{HoldsBinds, Binds, binding-some}
 use Rattle.types.specs.Once.{ATree, ACon}
 use Rattle.types.specs.Sets.{HoldsCons, Cons, con-some}
+use Rattle.types.specs.Runs.{HoldsEach, each-in}
 use Rattle.types.specs.Written.{Writes, writes-then, writes-none}
 
 pub short : (s : List ℕ) (at : ℕ) (t : ATree s at) → length s ≤ 4_000_000_000 → size t.0 ≤ 1_000_000_000
@@ -34,7 +36,7 @@ con-words s at e c q =
 -- constraints one after another; and bindings
 module _ (s : List ℕ) where
   cons-from : (cs : List (Con ℕ)) (at : ℕ) → HoldsCons s cs at → from s at ≡ collect writeCon cs ++ from s (at + sum_of sizeCon cs)
-  unfolding HoldsCons collect
+  unfolding HoldsEach collect
   cons-from [] at h = rw (add-zero at)
   cons-from (c ∷ cs) at h =
       let i : at + sizeCon c + sum_of sizeCon cs ≡ at + (sizeCon c + sum_of sizeCon cs) = omega arith in
@@ -42,7 +44,7 @@ module _ (s : List ℕ) where
       ∙ sym (append_assoc (writeCon c) (collect writeCon cs) (from s (at + (sizeCon c + sum_of sizeCon cs))))
 
   pub binds-from : (bs : List (Binding ℕ)) (at : ℕ) → HoldsBinds s bs at → from s at ≡ collect writeBinding bs ++ from s (at + sum_of sizeBinding bs)
-  unfolding HoldsBinds collect
+  unfolding HoldsEach collect
   binds-from [] at h = rw (add-zero at)
   binds-from (b ∷ bs) at h =
       let i : at + sizeBinding b + sum_of sizeBinding bs ≡ at + (sizeBinding b + sum_of sizeBinding bs) = omega arith in
@@ -50,23 +52,19 @@ module _ (s : List ℕ) where
       ∙ sym (append_assoc (writeBinding b) (collect writeBinding bs) (from s (at + (sizeBinding b + sum_of sizeBinding bs))))
 
   pub cons-in : (cs : List (Con ℕ)) (at : ℕ) → at ≤ length s / 4 → HoldsCons s cs at → at + sum_of sizeCon cs ≤ length s / 4
-  unfolding HoldsCons
-  cons-in [] at le h = omega arith
-  cons-in (c ∷ cs) at le h = omega (arith, cons-in cs (at + sizeCon c) (con-in s c at h.0) h.1)
+  cons-in = each-in HoldsCon sizeCon s (con-in s)
 
   pub binds-in : (bs : List (Binding ℕ)) (at : ℕ) → at ≤ length s / 4 → HoldsBinds s bs at → at + sum_of sizeBinding bs ≤ length s / 4
-  unfolding HoldsBinds
-  binds-in [] at le h = omega arith
-  binds-in (b ∷ bs) at le h = omega (arith, binds-in bs (at + sizeBinding b) (binding-in s b at h.0) h.1)
+  binds-in = each-in HoldsBinding sizeBinding s (binding-in s)
 
   -- where there are any, they lie within
   pub set-within : (at end : ℕ) (h : Cons s at end) → at < end → end ≤ length s / 4
-  unfolding HoldsCons
+  unfolding HoldsEach
   set-within at end ([], k) lt = absurd (omega (arith, k.ends, lt))
   set-within at end (c ∷ cs, k) lt = omega (arith, k.ends, cons-in cs (at + sizeCon c) (con-in s c at k.held.0) k.held.1)
 
   pub binds-within : (at end : ℕ) (h : Binds s at end) → at < end → end ≤ length s / 4
-  unfolding HoldsBinds
+  unfolding HoldsEach
   binds-within at end ([], k) lt = absurd (omega (arith, k.ends, lt))
   binds-within at end (b ∷ bs, k) lt = omega (arith, k.ends, binds-in bs (at + sizeBinding b) (binding-in s b at k.held.0) k.held.1)
 
