@@ -16,7 +16,7 @@ use Rattle.laws.specs.Order.{Lawful, self}
 use Rattle.laws.specs.Lists.{All, in_head, and_left, every-all}
 use Rattle.laws.specs.Fractions.{plus-neg, mul-one', mul-comm'}
 use Rattle.laws.specs.Ranges.{good-lowest, stored-good, stored-not-zero}
-use Rattle.laws.specs.Sorted.{Sorted, merge-sorted}
+use Rattle.laws.specs.Sorted.{Sorted, merge-nil, merge-sorted}
 
 -- ══ Exponents ══
 
@@ -58,15 +58,10 @@ module _ {N : Type 0} where
     pub longer : length r ≡ suc (length p)
 
 module _ {N : Type 0} (ν : Names N) (law : Lawful (orderAtom ν)) where
-  merge-nothing : (p : Product N) → merge ν bounded p [] ≡ got p
-  unfolding merge mergeOne
-  merge-nothing [] = refl
-  merge-nothing (a ↑ e ∷ p) = refl
-
   module _ (b : Atom N) (d : Exp) (p : Product N) (a : Atom N) (k : Exp) where
     merge-same : orderAtom ν b a ≡ Ordering.eq → sum bounded d k ≡ got nought → merge ν bounded (b ↑ d ∷ p) (a ↑ k ∷ []) ≡ got p
     unfolding merge mergeOne
-    merge-same i j = rw (i, mergeOne) (rw j (rw (merge-nothing p)))
+    merge-same i j = rw (i, mergeOne) (rw j (rw (merge-nil ν bounded p)))
 
     merge-later : (r : Product N) → orderAtom ν b a ≡ Ordering.lt → merge ν bounded p (a ↑ k ∷ []) ≡ got r
         → merge ν bounded (b ↑ d ∷ p) (a ↑ k ∷ []) ≡ got (b ↑ d ∷ r)

@@ -46,7 +46,7 @@ use Rattle.rules.specs.Schemes.{renamed, back}
 use Rattle.rules.specs.WellFormed.{atomOf, goodProduct, goodTy, goodTys, goodFields}
 use Rattle.laws.specs.Order.{Lawful, self}
 use Rattle.laws.specs.Lists.{All, in_head, every-all, and_left, and_right, bound-step, one-step, two_steps, allow-same}
-use Rattle.laws.specs.Sorted.{Sorted, merge-sorted}
+use Rattle.laws.specs.Sorted.{Sorted, merge-nil, merge-sorted}
 use Rattle.laws.specs.GoodProducts.{GoodFactor, good-product}
 use Rattle.schemes_renaming.proofs.Factors.{Removed, removed, raise-just}
 use Rattle.schemes_renaming.proofs.Again.{back_is}
@@ -75,11 +75,6 @@ module _ {N : Type 0} (ν : Names N) (law : Lawful (orderAtom ν)) where
       go true i = rw (i, put) m
       go false i = rw (i, put) (Memᴰ.tail m)
 
-  merge-nothing' : (p r : Product N) → merge ν bounded p [] ≡ got r → r ≡ p
-  unfolding merge mergeOne
-  merge-nothing' [] r e = cc
-  merge-nothing' (a ↑ e ∷ p) r i = cc
-
   pub added : (a : Atom N) (e : Exp) (p r : Product N) → merge ν bounded p (a ↑ e ∷ []) ≡ got r → Added (a ↑ e) p r
   unfolding merge mergeOne
   added a e [] r i = let z : a ↑ e ∷ [] ≡ r = cc in rw (sym z) (record { kept = λ x m. absurd (Memᴰ.not-nil m); short = omega arith })
@@ -103,7 +98,7 @@ module _ {N : Type 0} (ν : Names N) (law : Lawful (orderAtom ν)) where
       go Ordering.eq o again =
           let (s, j, k) = bound-step (sum bounded d e) (λ s. merge ν bounded p [] >>= λ q. got (put b s q)) r (rw (o, mergeOne) at i) in
           let (q, l, m) = bound-step (merge ν bounded p []) (λ q. got (put b s q)) r k in
-          let z : q ≡ p = merge-nothing' p q l in
+          let z : q ≡ p = let n : got p ≡ got q = sym (merge-nil ν bounded p) ∙ l in cc in
           let y : put b s p ≡ r = ap (put b s) (sym z) ∙ (let w : put b s q ≡ r = cc in w) in
           let t = put-short b s p in
           rw (sym y) (record { kept = λ x n h. put-kept b s p x (other x h (Memᴰ.cases_cons n)); short = omega arith })
