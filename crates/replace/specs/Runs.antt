@@ -1,6 +1,6 @@
 -- A run of bindings in a part of a list of words, and what a variable is bound to there.
 use Rattle.std.proofs.Math.Path.{◌≡◌, refl}
-use Rattle.std.proofs.Common.{sym, ap, subst, ◌∙◌, eq-eqb, ne_eqb}
+use Rattle.std.proofs.Common.{sym, ap, subst, ◌∙◌}
 use Rattle.std.specs.Prelude as std
 use Rattle.std.specs.Prelude.{None, Some, Bool, true, false, eqb, length}
 use Rattle.std.proofs.Math.Bool.{and-eq-true_iff}
