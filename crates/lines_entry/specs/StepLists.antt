@@ -1,8 +1,8 @@
 -- The steps of a line one by one from a place on, in words, and read.
-use Rattle.std.specs.Prelude.{◌≡◌, refl, Bool, true, false, not, ◌&&◌, ℕ, zero, suc, ◌+◌, ◌-◌, ◌%◌, ◌/◌, ◌<◌, ◌≤◌, eqb, length, take, drop, set, get_or}
-use Rattle.std.proofs.Common.{sym, arith, ne_eqb, ap, ◌∙◌, append_assoc, add-one, drop-cons}
+use Rattle.std.specs.Prelude.{◌≡◌, refl, Bool, true, false, not, ◌&&◌, ℕ, ◌+◌, ◌-◌, ◌%◌, ◌/◌, ◌<◌, ◌≤◌, eqb, length, take, drop, set, get_or}
+use Rattle.std.proofs.Common.{sym, arith, ne_eqb, ap, ◌∙◌, append_assoc, add-one}
 use borrow.Author.Tests.{le-leb, lt-leb}
-use Rattle.std.proofs.lemmas.List.{map-append, take_more_set}
+use Rattle.std.proofs.lemmas.List.{append-nil, drop_all, drop_more, map-append, take_more_set}
 use mathlib.Core.List.{List, [], ◌∷◌, ◌++◌, map}
 use Rattle.std.proofs.Math.Option.{none, some}
 use Rattle.rules.specs.Base.{Got, got, refused, ◌>>=◌, ◌>>◌, need, all, each}
@@ -111,10 +111,6 @@ unfoldable mutual
 
 -- ══ One step after another ══
 
-nothing-more : {A : Type 0} (xs : List A) → xs ++ [] ≡ xs
-nothing-more [] = refl
-nothing-more (x ∷ xs) = ap (x ∷◌) (nothing-more xs)
-
 module _ (f : StepWords → Got (LineStep ℕ)) (s : List ℕ) where
   -- these were read of the steps up to place i
   abbrev pub ReadTo : ℕ → List (LineStep ℕ) → Type 0
@@ -145,7 +141,7 @@ module _ (f : StepWords → Got (LineStep ℕ)) (s : List ℕ) where
 
     pub read-all : length s / 4 ≤ i → each f (stepsFrom s 0) ≡ got ss
     unfolding each
-    read-all h = r ∙ rw (from-none s i h) (ap got (nothing-more ss))
+    read-all h = r ∙ rw (from-none s i h) (ap got (append-nil ss))
 
 -- the step that was stored at place i, behind those before it
 pub stored : {A : Type 0} (f : A → LineStep ℕ) (xs : List A) (i : ℕ) (x : A) → i < length xs
@@ -155,32 +151,20 @@ stored f xs i x h = ap (map f) (take_more_set xs i x h) ∙ map-append f (take i
 -- ══ Lists from a place on ══
 
 module _ {A : Type 0} (xs : List A) (i : ℕ) where
-  pub rest-none : length xs ≤ i → drop i xs ≡ []
-  rest-none h = go xs i h
-    where
-      go : (ys : List A) (j : ℕ) → length ys ≤ j → drop j ys ≡ []
-      go [] zero h = refl
-      go [] (suc j) h = refl
-      go (y ∷ ys) zero h = absurd (omega arith)
-      go (y ∷ ys) (suc j) h = go ys j (omega arith)
-
-  pub rest_some : (d : A) → i < length xs → drop i xs ≡ get_or xs i d ∷ drop (i + 1) xs
-  rest_some d h = drop-cons xs i d h ∙ ap (λ (j : ℕ). get_or xs i d ∷ drop j xs) (sym (add-one i))
-
   -- does each of the steps from there on find its operands, where there are n types
   module _ (g : A → LineStep ℕ) (n : ℕ) where
     pub whole-on : (d : A) → i < length xs → (k : ℕ) → k ≡ operands (g (get_or xs i d)) → k ≤ n
         → whole (n - k + 1) (map g (drop (i + 1) xs)) ≡ whole n (map g (drop i xs))
     unfolding whole
-    whole-on d h k e l = rw (rest_some d h, ← e, le-leb k n l, add-one (n - k))
+    whole-on d h k e l = rw (drop_more xs i d h, ← e, le-leb k n l, add-one (n - k))
 
     pub whole-off : (d : A) → i < length xs → (k : ℕ) → k ≡ operands (g (get_or xs i d)) → n < k → false ≡ whole n (map g (drop i xs))
     unfolding whole
-    whole-off d h k e l = rw (rest_some d h, ← e, lt-leb k n l)
+    whole-off d h k e l = rw (drop_more xs i d h, ← e, lt-leb k n l)
 
     pub whole-end : length xs ≤ i → eqb n 1 ≡ whole n (map g (drop i xs))
     unfolding whole
-    whole-end h = rw (rest-none h)
+    whole-end h = rw (drop_all i xs h)
 
 -- ══ The line ══
 

@@ -18,7 +18,7 @@ use Rattle.records.specs.Holds.{openOf, atomOf, Shows, HoldsFactors, HoldsProduc
 use Rattle.records.specs.ByView.{open-back}
 use Rattle.records.specs.declared.View.{View}
 use Rattle.records.specs.declared.View.TheVariants as view
-use Rattle.lines_entry.specs.StepLists.{rest-none, rest_some}
+use Rattle.std.proofs.lemmas.List.{append-nil, drop_all, drop_more}
 use Rattle.rules.specs.Lines.{namesOfFactor, namesOfTy, namesOfTys, namesOfFields}
 
 -- ══ Records one by one ══
@@ -46,10 +46,6 @@ namesView (view.Bound o) = []
 namesView (view.Scheme n) = []
 namesView view.Concrete = []
 namesView view.Bad = []
-
-nothing : (xs : List ℕ) → xs ++ [] ≡ xs
-nothing [] = refl
-nothing (x ∷ xs) = ap (x ∷◌) (nothing xs)
 
 module _ (s : List ℕ) where
   unfoldable pub namesFrom : ℕ → ℕ → List ℕ
@@ -104,7 +100,7 @@ module _ (s : List ℕ) where
     unfolding Holds HoldsProduct size namesOfTy namesFrom
 
     ty-names : (t : Ty ℕ) (at : ℕ) → Holds s t at → namesFrom (size t) at ≡ namesOfTy t
-    ty-names (opened o) at h = one at 0 h.0 ∙ rw (open-back o) (nothing (to_list (name_of o)))
+    ty-names (opened o) at h = one at 0 h.0 ∙ rw (open-back o) (append-nil (to_list (name_of o)))
     ty-names (basic b) at h = one at 0 h.0
     ty-names (dim p) at h = one at (length p) h.0 ∙ factors-names p (at + 1) h.1
     ty-names (fn ps r) at h = one at (sizeTys ps + size r) h.0
@@ -133,7 +129,7 @@ module _ (s : List ℕ) where
 module _ (xs : List ℕ) (i : ℕ) where
   module _ (h : i < length xs) where
     here : drop i xs ≡ get_or xs i 0 ∷ drop (i + 1) xs
-    here = rest_some xs i 0 h
+    here = drop_more xs i 0 h
 
     pub among-hit : (x : ℕ) → x ≡ get_or xs i 0 → true ≡ any (eqb x) (drop i xs)
     unfolding any
@@ -168,7 +164,7 @@ module _ {A B : Type 0} (f : B → List ℕ) (g : A → B) (x : ℕ) (xs : List 
   module _ (d : A) (h : i < length xs) where
     used_step : used i ≡ (any (eqb x) (f (g (get_or xs i d))) || used (i + 1))
     unfolding collect
-    used_step = ap (λ (ys : List A). any (eqb x) (collect f (map g ys))) (rest_some xs i d h)
+    used_step = ap (λ (ys : List A). any (eqb x) (collect f (map g ys))) (drop_more xs i d h)
         ∙ any_append (eqb x) (f (g (get_or xs i d))) (collect f (map g (drop (i + 1) xs)))
 
     pub used-hit : any (eqb x) (f (g (get_or xs i d))) ≡ true → true ≡ used i
@@ -179,4 +175,4 @@ module _ {A B : Type 0} (f : B → List ℕ) (g : A → B) (x : ℕ) (xs : List 
 
   pub used-none : length xs ≤ i → false ≡ used i
   unfolding collect any
-  used-none h = rw (rest-none xs i h)
+  used-none h = rw (drop_all i xs h)

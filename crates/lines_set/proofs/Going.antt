@@ -13,24 +13,12 @@ use Rattle.rules.specs.Steps.{LineStep, Deed, operands, takes}
 use Rattle.rules.specs.Lines.{issued, constraints}
 use Rattle.lines_entry.specs.Told.{stepOf}
 use Rattle.lines_entry.specs.declared.inner.steps.Step.{Step}
-use Rattle.lines_entry.specs.StepLists.{rest-none, rest_some}
+use Rattle.std.proofs.lemmas.List.{drop_all, drop_more, drop-set, take_all}
 use Rattle.lines_set.specs.Deeds.{deedOf, takenBy, took}
 use Rattle.lines_set.specs.declared.deeds.Deed as code
 
--- a variable put on the stack, which grows downward
-pub pushed : (stack : List ℕ) (p v : ℕ) → p < length stack → drop p (set stack p v) ≡ v ∷ drop (suc p) stack
-pushed [] p v h = absurd (omega arith)
-pushed (x ∷ xs) zero v h = refl
-pushed (x ∷ xs) (suc p) v h = pushed xs p v (omega arith)
-
-all-taken : (xs : List ℕ) (m : ℕ) → length xs ≤ m → take m xs ≡ xs
-all-taken [] zero h = refl
-all-taken [] (suc m) h = refl
-all-taken (x ∷ xs) zero h = absurd (omega arith)
-all-taken (x ∷ xs) (suc m) h = ap (x ∷◌) (all-taken xs m (omega arith))
-
 whole-stack : (stack : List ℕ) (p m : ℕ) → length stack ≤ p + m → take m (drop p stack) ≡ drop p stack
-whole-stack stack p m h = all-taken (drop p stack) m (omega (arith, length-drop p stack))
+whole-stack stack p m h = take_all m (drop p stack) (omega (arith, length-drop p stack))
 
 -- a step that finds its operands leaves the stack in its place
 pub in-place : (stack : List ℕ) (p m : ℕ) (s : LineStep ℕ) (deed : code.Deed)
@@ -73,7 +61,7 @@ module _ (ν : Names ℕ) where
         → Writes w₀ w' (collect writeCon (constraints ν lent [] (map stepOf list)))
 
     pub still-first : (w : Writer) (stack : List ℕ) (p : ℕ) → length stack ≤ p → Still w w stack 0 p
-    still-first w stack p h w' q = rw (rest-none stack p h) at q
+    still-first w stack p h w' q = rw (drop_all p stack h) at q
 
     module _ (w₀ w : Writer) (stack : List ℕ) (i p : ℕ) (g : Still w₀ w stack i p) where
       still-over : constraints ν (drop i lent) (drop p stack) (steps i) ≡ [] → Writes w₀ w (collect writeCon (constraints ν lent [] (map stepOf list)))
@@ -81,11 +69,11 @@ module _ (ν : Names ℕ) where
       still-over h = g w (rw h (writes-none w))
 
       pub still_end : length list ≤ i → Writes w₀ w (collect writeCon (constraints ν lent [] (map stepOf list)))
-      still_end h = still-over (ap (λ (xs : List Step). constraints ν (drop i lent) (drop p stack) (map stepOf xs)) (rest-none list i h)
+      still_end h = still-over (ap (λ (xs : List Step). constraints ν (drop i lent) (drop p stack) (map stepOf xs)) (drop_all i list h)
           ∙ none-left (drop i lent) (drop p stack))
 
       pub still-nameless : length lent ≤ i → Writes w₀ w (collect writeCon (constraints ν lent [] (map stepOf list)))
-      still-nameless h = still-over (ap (λ (vs : List ℕ). constraints ν vs (drop p stack) (steps i)) (rest-none lent i h) ∙ no-name (drop p stack) (steps i))
+      still-nameless h = still-over (ap (λ (vs : List ℕ). constraints ν vs (drop p stack) (steps i)) (drop_all i lent h) ∙ no-name (drop p stack) (steps i))
 
       -- m: how many are on the stack
       module _ (l : i < length lent) (x : Step) (there : x ≡ get_or list i x) (h : i < length list) (m : ℕ) (all-of : length stack ≤ p + m) where
@@ -97,8 +85,8 @@ module _ (ν : Names ℕ) where
 
         begins : constraints ν (drop i lent) (drop p stack) (steps i) ≡ constraints ν (v ∷ drop (i + 1) lent) (drop p stack) (s ∷ steps (i + 1))
         begins =
-            let first : drop i list ≡ x ∷ drop (i + 1) list = rest_some list i x h ∙ ap (λ (y : Step). y ∷ drop (i + 1) list) (sym there) in
-            rw (rest_some lent i 0 l, first)
+            let first : drop i list ≡ x ∷ drop (i + 1) list = drop_more list i x h ∙ ap (λ (y : Step). y ∷ drop (i + 1) list) (sym there) in
+            rw (drop_more lent i 0 l, first)
 
         pub still-stuck : none ≡ takes s (take m (drop p stack)) → Writes w₀ w (collect writeCon (constraints ν lent [] (map stepOf list)))
         still-stuck n = still-over (begins ∙ stuck v (drop (i + 1) lent) (drop p stack) s (steps (i + 1)) (rw (whole-stack stack p m all-of) at n))
@@ -109,8 +97,8 @@ module _ (ν : Names ℕ) where
         still_on w₁ deed n' q p' e k w' r =
             let n : some (deedOf deed, drop (operands s) (drop p stack)) ≡ takes s (drop p stack) = rw (whole-stack stack p m all-of) at n' in
             let x : List ℕ = drop (operands s) (drop p stack) in
-            let top : drop p' (set stack p' v) ≡ v ∷ x = pushed stack p' v k
-            ∙ ap (v ∷◌) (ap (λ (j : ℕ). drop j stack) (next e) ∙ sym (drop-drop (operands s) p stack)) in
+            let top : drop p' (set stack p' v) ≡ v ∷ x = drop-set stack p' v k
+            ∙ ap (v ∷◌) (ap (λ (j : ℕ). drop j stack) e ∙ sym (drop-drop (operands s) p stack)) in
             let rest : Writes w₁ w' (collect writeCon (constraints ν (drop (i + 1) lent) (v ∷ x) (steps (i + 1)))) =
             subst (λ (st : List ℕ). Writes w₁ w' (collect writeCon (constraints ν (drop (i + 1) lent) st (steps (i + 1))))) top r in
             let all : constraints ν (drop i lent) (drop p stack) (steps i) ≡ issued ν v (deedOf deed) ++ constraints ν (drop (i + 1) lent) (v ∷ x) (steps
@@ -119,9 +107,6 @@ module _ (ν : Names ℕ) where
             g w' (subst (Writes w w') (sym (ap (collect writeCon) all ∙ collect-append writeCon (issued ν v (deedOf deed)) (constraints ν (drop
             (i + 1) lent) (v ∷ x) (steps (i + 1)))))
             (writes-then (collect writeCon (issued ν v (deedOf deed))) (collect writeCon (constraints ν (drop (i + 1) lent) (v ∷ x) (steps (i + 1)))) q rest))
-          where
-            next : p' + 1 ≡ p + operands s → suc p' ≡ p + operands s
-            next e = omega (arith, e)
 
     -- none of the stack is below it
     pub record On (w₀ w : Writer) (stack : List ℕ) (i p : ℕ) : Type 0 where

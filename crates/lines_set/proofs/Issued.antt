@@ -2,6 +2,7 @@
 use Rattle.std.specs.Prelude.{◌≡◌, true, false, ℕ, ◌+◌, ◌≤◌, ℤ}
 use Rattle.std.proofs.Math.Path.{refl, ap}
 use Rattle.std.proofs.Common.{sym, ◌∙◌, arith, subst, append_assoc}
+use Rattle.std.proofs.lemmas.List.{append-nil}
 use mathlib.Core.List.{List, [], ◌∷◌, ◌++◌}
 use Prim.Native.Nat.{Ordering}
 use Rattle.rules.specs.Base.{collect}
@@ -24,10 +25,6 @@ use Rattle.lines_entry.specs.declared.inner.steps.Two.{Two}
 use Rattle.lines_set.specs.Deeds.{deedOf}
 use Rattle.lines_set.specs.declared.deeds.Deed.{Deed}
 use Rattle.rules.specs.Lines.{its, dimensions, twoFactors, issuedByTwo, issued}
-
-nothing-more : (rs : List Rec) → rs ++ [] ≡ rs
-nothing-more [] = refl
-nothing-more (r ∷ rs) = ap (r ∷◌) (nothing-more rs)
 
 pub dim-put : {w w₁ w₂ : Writer} (x : ℕ) → Writes w w₁ (recOf view.IsDim (fit 2) ∷ []) → Writes w₁ w₂ (writeTy (its x)) → Writes w w₂ (writeCon (isDim (its x)))
 unfolding writeCon sizeCon size fit
@@ -52,13 +49,13 @@ boolean-put x p q r = equal-put x (basic boolean) 3 refl (omega arith) p q r
 pub dimensions-put : {w w₁ w₂ : Writer} (l r : ℕ) → Writes w w₁ (writeCon (isDim (its l))) → Writes w₁ w₂ (writeCon (isDim (its r)))
     → Writes w w₂ (collect writeCon (dimensions l r))
 unfolding collect
-dimensions-put {w} {w₁} {w₂} l r p q = subst (Writes w w₂) (ap (writeCon (isDim (its l)) ++◌) (sym (nothing-more (writeCon (isDim (its r))))))
+dimensions-put {w} {w₁} {w₂} l r p q = subst (Writes w w₂) (ap (writeCon (isDim (its l)) ++◌) (sym (append-nil (writeCon (isDim (its r))))))
     (writes-then (writeCon (isDim (its l))) (writeCon (isDim (its r))) p q)
 
 pub given-put : {w w₁ w₂ w₃ : Writer} (ν : Names ℕ) (v : ℕ) (t : Ty ℕ) (n : ℕ) → n ≡ 2 + size t → size t ≤ 2048 → Writes w w₁ (recOf view.Equal (fit n) ∷ [])
     → Writes w₁ w₂ (writeTy (its v)) → Writes w₂ w₃ (writeTy t) → Writes w w₃ (collect writeCon (issued ν v (gives t)))
 unfolding collect issued
-given-put {w} {w₁} {w₂} {w₃} ν v t n e l p q r = subst (Writes w w₃) (sym (nothing-more (writeCon (equal (its v) t)))) (equal-put v t n e (omega
+given-put {w} {w₁} {w₂} {w₃} ν v t n e l p q r = subst (Writes w w₃) (sym (append-nil (writeCon (equal (its v) t)))) (equal-put v t n e (omega
     (arith, e, l)) p q r)
 
 -- three constraints, or two and one
@@ -113,7 +110,7 @@ module _ (ν : Names ℕ) (l r : ℕ) (e : Exp) where
   two-lists : (rs : List Rec) → collect writeCon (dimensions l r) ++ rs ≡ writeCon (isDim (its l)) ++ (writeCon (isDim (its r)) ++ rs)
   unfolding collect
   two-lists rs = append_assoc (writeCon (isDim (its l))) (writeCon (isDim (its r)) ++ []) rs
-      ∙ ap (writeCon (isDim (its l)) ++◌) (ap (◌++ rs) (nothing-more (writeCon (isDim (its r)))))
+      ∙ ap (writeCon (isDim (its l)) ++◌) (ap (◌++ rs) (append-nil (writeCon (isDim (its r)))))
 
   pub product-put : {w w₁ w₂ w₃ w₄ : Writer} (v : ℕ) → Writes w w₁ (collect writeCon (dimensions l r)) → Writes w₁ w₂ (recOf view.Equal (fit 5) ∷ [])
       → Writes w₂ w₃ (writeTy (its v)) → Writes w₃ w₄ (writeTy (dim (twoFactors ν l r e)))
@@ -121,7 +118,7 @@ module _ (ν : Names ℕ) (l r : ℕ) (e : Exp) where
   unfolding collect
   product-put {w} {w₁} {w₂} {w₃} {w₄} v p q s t =
       let c : List Rec = writeCon (equal (its v) (dim (twoFactors ν l r e))) in
-      let u : Writes w₁ w₄ (c ++ []) = subst (Writes w₁ w₄) (sym (nothing-more c)) (equal-put v (dim (twoFactors ν l r e)) 5 long-two (omega arith) q s t) in
+      let u : Writes w₁ w₄ (c ++ []) = subst (Writes w₁ w₄) (sym (append-nil c)) (equal-put v (dim (twoFactors ν l r e)) 5 long-two (omega arith) q s t) in
       subst (Writes w w₄) (two-lists (c ++ [])) (writes-then (collect writeCon (dimensions l r)) (c ++ []) p u)
 
 -- the words of its record say a factor
@@ -149,7 +146,7 @@ module _ (ν : Names ℕ) (v x : ℕ) (e : Exp) where
   unfolding collect issued
   power-put {w} {w₁} {w₂} f h p q =
       rw h (writes-then (writeCon (isDim (its x))) (writeCon (equal (its v) (dim f)) ++ []) p
-      (subst (Writes w₁ w₂) (sym (nothing-more (writeCon (equal (its v) (dim f))))) q))
+      (subst (Writes w₁ w₂) (sym (append-nil (writeCon (equal (its v) (dim f))))) q))
 
   pub scalar-put : {w w₁ w₂ w₃ w₄ : Writer} → isZero e ≡ true → Writes w w₁ (writeCon (isDim (its x))) → Writes w₁ w₂ (recOf view.Equal (fit 3) ∷ [])
       → Writes w₂ w₃ (writeTy (its v)) → Writes w₃ w₄ (recOf (view.Dim 0) (fit 1) ∷ []) → Writes w w₄ (collect writeCon (issued ν v (raised e x)))

@@ -1,7 +1,7 @@
 -- `inner::fresh::all_differ` meets its contract.
 use mathlib.Core.Path.{sym, ap, ◌∙◌}
 use Rattle.rules.specs.Calls.{differ}
-use Rattle.lines_entry.specs.StepLists.{rest-none}
+use Rattle.std.proofs.lemmas.List.{drop_all}
 use Rattle.lines_entry.specs.Used.{differ-hit, differ-miss}
 use Rattle.lines_entry.proofs.inner.fresh.all_differ.Goals as goal
 
@@ -15,4 +15,4 @@ loop-i-preserved c = let n = c.args.lent.now in let i = c.loop-i.i
 
 pub returns : goal.returns
 unfolding differ
-returns c = sym (ap differ (rest-none _ _ c.loop-i-test.false)) ∙ c.loop-i.invariant
+returns c = sym (ap differ (drop_all _ _ c.loop-i-test.false)) ∙ c.loop-i.invariant

@@ -3,7 +3,7 @@ use mathlib.Core.Path.{sym, ap, ◌∙◌}
 use lib.Dec.{ltb}
 use lib.ListN.{get_or}
 use Rattle.rules.specs.Base.{all}
-use Rattle.lines_entry.specs.StepLists.{rest-none}
+use Rattle.std.proofs.lemmas.List.{drop_all}
 use Rattle.lines_entry.specs.Used.{all-hit, all-miss}
 use Rattle.lines_entry.proofs.inner.fresh.all_held.Goals as goal
 
@@ -17,4 +17,4 @@ loop-i-preserved c = let n = c.args.lent.now in let i = c.loop-i.i
 
 pub returns : goal.returns
 unfolding all
-returns c = sym (ap (all (λ x. ltb x (get_or c.args.names.table.now 0 0))) (rest-none _ _ c.loop-i-test.false)) ∙ c.loop-i.invariant
+returns c = sym (ap (all (λ x. ltb x (get_or c.args.names.table.now 0 0))) (drop_all _ _ c.loop-i-test.false)) ∙ c.loop-i.invariant

@@ -2,7 +2,7 @@
 use mathlib.Core.Path.{sym, ap, ◌∙◌}
 use lib.Dec.{eqb}
 use Rattle.rules.specs.Base.{any}
-use Rattle.lines_entry.specs.StepLists.{rest-none}
+use Rattle.std.proofs.lemmas.List.{drop_all}
 use Rattle.lines_entry.specs.Used.{among-hit, among-miss}
 use Rattle.lines_entry.proofs.inner.fresh.is_among.Goals as goal
 
@@ -14,4 +14,4 @@ loop-i-preserved c = let n = c.args.lent.now in let i = c.loop-i.i in among-miss
 
 pub returns : goal.returns
 unfolding any
-returns c = sym (ap (any (eqb c.args.x)) (rest-none _ _ c.loop-i-test.false)) ∙ c.loop-i.invariant
+returns c = sym (ap (any (eqb c.args.x)) (drop_all _ _ c.loop-i-test.false)) ∙ c.loop-i.invariant

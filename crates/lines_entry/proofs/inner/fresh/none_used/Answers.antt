@@ -2,7 +2,7 @@
 use mathlib.Core.Path.{refl, sym, ap, ◌∙◌}
 use mathlib.Core.Bool.{not}
 use Rattle.rules.specs.Base.{all}
-use Rattle.lines_entry.specs.StepLists.{rest-none}
+use Rattle.std.proofs.lemmas.List.{drop_all}
 use Rattle.lines_entry.specs.Used.{all-hit, all-miss}
 use Rattle.lines_entry.proofs.inner.fresh.none_used.Goals as goal
 
@@ -17,4 +17,4 @@ loop-i-preserved c = all-hit _ _ c.loop-i-test.true _ (ap not (sym c.one_uses.en
 
 pub returns : goal.returns
 unfolding all
-returns c = sym (ap (all _) (rest-none _ _ c.loop-i-test.false)) ∙ c.loop-i.invariant
+returns c = sym (ap (all _) (drop_all _ _ c.loop-i-test.false)) ∙ c.loop-i.invariant
