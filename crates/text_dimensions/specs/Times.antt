@@ -16,6 +16,7 @@ use Rattle.rules.specs.Values.{productValue, value_of, kind_of, number_in, atomI
 use Rattle.rules.specs.WellFormed.{goodProduct}
 use Rattle.rules.specs.Writing.{Rec, words}
 use Rattle.rules.specs.declared.Refusal.{Refusal}
+use Rattle.laws.specs.Lists.{clash, same-number}
 use Rattle.laws.specs.Ranges.{is-stored}
 use Rattle.laws.specs.GoodProducts.{GoodProduct, product-good, multiply_good}
 use Rattle.exponents.specs.Answers.{expOf}
@@ -101,12 +102,12 @@ module _ (pool table : List ℕ) (p : Product) (is : given p ≡ productValue []
 made-got : (P : Product) (m : Got Tree) → got (given P) ≡ answer m → (s : Tree) × ((m ≡ got s) × (given P ≡ productValue s))
 unfolding answer
 made-got P (got s) e = (s, (refl, cc))
-made-got P (refused n) e = let z : ◌≡◌ {A = ℕ} 0 1 = cc in absurd (omega arith)
+made-got P (refused n) e = clash (sym e)
 
 made-refused : (n : ℕ) (m : Got Tree) → refused n ≡ answer m → m ≡ refused n
 unfolding answer
-made-refused n (got s) e = let z : ◌≡◌ {A = ℕ} 0 1 = cc in absurd (omega arith)
-made-refused n (refused k) e = let z : k ≡ n = cc in ap refused z
+made-refused n (got s) e = clash e
+made-refused n (refused k) e = ap refused (sym (same-number e))
 
 module _ {pool table : List ℕ} {q : Product} (kind name : ℕ) (e : Exp) (at : ℕ) (w : Well pool table q) where
   pub times-stays : {s : Stand} {r : Refusal} {c : ℕ} → s ≡ stand.Refused r c → Timed pool table q kind name e at s s q

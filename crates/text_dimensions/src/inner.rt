@@ -147,8 +147,8 @@ fn single(factor: Factor) -> Product
 /// Multiplies by a factor: 7 or 8 at its mark, unless the sheet is refused already.
 fn times(q: Product, factor: Factor, at: usize, s: Stand, names: NameTable) -> Multiplied
     requires well { Well names.pool.now names.table.now q }
-    requires good_exp { goodExp (expOf factor.exp) ≡ true }
-    requires held_if { HeldIf names.table.now factor.kind factor.name s }
+    requires power_good { goodExp (expOf factor.exp) ≡ true }
+    requires name_held { HeldIf names.table.now factor.kind factor.name s }
     ensures { Timed names.entry.pool.now names.entry.table.now q factor.kind factor.name (expOf factor.exp) at s result.stand result.product }
 {
     match s {

@@ -25,8 +25,8 @@ times-m-requires c =
     let fine = at-fine c.enter_power-e.result.end.at (sym c.if-is_at.true ∙ c.is_at.ensures) in
     record {
       well = well-stays c.requires.ready.good (named []).kept _ c.requires.well;
-      good_exp = c.enter_power-e.ensures.0;
-      held_if = held-if (named []) valued fine;
+      power_good = c.enter_power-e.ensures.0;
+      name_held = held-if (named []) valued fine;
     }
 
 pub returns-then-is_at : goal.returns-then-is_at

@@ -1,5 +1,5 @@
 -- `inner::whole::put_product` meets its contract.
-use Rattle.std.proofs.Common.{◌≡◌, arith, ◌∙◌, rules}
+use Rattle.std.proofs.Common.{arith, sym, ◌∙◌, rules}
 use Rattle.products.specs.Places.{length-product}
 use Rattle.products.specs.Told.{productOf}
 use Rattle.text_dimensions.specs.Whole.{written-length}
@@ -10,6 +10,5 @@ returns c =
     let q = c.args.q in
     let sound = c.requires.sound in
     let few = c.requires.few _ _ c.in-Ok.is in
-    let back : c.dst-1.given.0 ≡ c.product.new.self.words.now = search rules in
-    rw (c.in-Ok.is, c.in-Ok-r.is)
-    (back ∙ c.product.ensures.words (omega (arith, few, written-length (productOf q), length-product q sound.long sound.few, sound.few)))
+    let put = c.product.ensures.words (omega (arith, few, written-length (productOf q), length-product q sound.long sound.few, sound.few)) in
+    rw (c.in-Ok.is, c.in-Ok-r.is) (sym (sym put ∙ (search rules)))
