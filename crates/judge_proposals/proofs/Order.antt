@@ -2,59 +2,36 @@
 use Rattle.std.proofs.Math.Path.{◌≡◌, refl, sym, ap, ap₂}
 use Rattle.std.proofs.Common.{◌∙◌, arith}
 use Rattle.std.specs.Prelude.{Bool, not, ◌&&◌, eqb}
-use Rattle.std.proofs.Math.Bool.{true, false, ◌||◌, and-eq-true_iff}
+use Rattle.std.proofs.Math.Bool.{true, false, ◌||◌, and-eq-true_iff, or_assoc, or_comm, or-false}
 use mathlib.Core.List.{List, [], ◌∷◌, ◌++◌, map}
-use Rattle.std.proofs.Math.Option.{Option, none, some}
+use Rattle.std.proofs.Math.Option.{none, some}
 use Prim.Native.Nat.{ℕ, zero, suc, ◌<◌}
 use Rattle.std.proofs.Math.Decide.{ℕ_discrete, dec_lt}
 use borrow.Author.Tests.{eq-eqb, ne_eqb, lt-ltb, le-ltb, not-true}
 use Rattle.std.proofs.Math.Dec.{ltb}
-use Rattle.rules.specs.Base.{any, collect, is_yes}
+use Rattle.rules.specs.Base.{any, collect}
 use Rattle.rules.specs.Calls.{differ, opensBinding}
 use Rattle.rules.specs.Names.{Bytes, numbered}
 use Rattle.rules.specs.Replacing.{find}
 use Rattle.rules.specs.Trees.{Open, Ty, Binding, ◌≔◌}
+use Rattle.laws.specs.Contents.{any_append}
+use Rattle.laws.specs.Lists.{some≢none, true≢false}
 use Rattle.queries.specs.declared.name_set.NameSet.{NameSet}
 use Rattle.queries.specs.Marks.{Has}
 use Rattle.queries.specs.Scans.{choose}
 use Rattle.queries.specs.ScanLaws.{choose-append, choose-none}
 use Rattle.queries.specs.declared.Kind.{Kind}
+use Rattle.types.proofs.FieldsFound.{named-same}
 use Rattle.judge_proposals.specs.Mixed.{variable, opens_of, opensBelow, Table}
 
-or_assoc : (a b c : Bool) → ((a || b) || c) ≡ (a || (b || c))
-or_assoc true b c = refl
-or_assoc false b c = refl
-
-or-false : (a : Bool) → (a || false) ≡ a
-or-false true = refl
-or-false false = refl
-
-or_swap : (a b : Bool) → (a || b) ≡ (b || a)
-or_swap true true = refl
-or_swap true false = refl
-or_swap false true = refl
-or_swap false false = refl
-
-any_append : (f : ℕ → Bool) (xs ys : List ℕ) → any f (xs ++ ys) ≡ (any f xs || any f ys)
-unfolding any
-any_append f [] ys = refl
-any_append f (x ∷ xs) ys = ap (f x ||◌) (any_append f xs ys) ∙ sym (or_assoc (f x) (any f xs) (any f ys))
-
-clash-some : {m : Option (Ty ℕ)} {t : Ty ℕ} → m ≡ none → m ≡ some t → ⊥
-clash-some p q = let z : ◌≡◌ {A = ℕ} 0 1 = cc in omega arith
-
 module _ (names : List Bytes) where
-  picks : (x y : ℕ) (d : Dec (x ≡ y)) → is_yes d ≡ eqb x y
-  picks x y (yes p) = sym (eq-eqb x y p)
-  picks x y (no n) = sym (ne_eqb x y n)
-
   find_first : (x : ℕ) (t : Ty ℕ) (bs : List (Binding ℕ)) (z : ℕ) → z ≡ x → find (numbered names) (x ≔ t ∷ bs) z ≡ some t
   unfolding find numbered
-  find_first x t bs z e = rw (find, picks z x (ℕ_discrete z x), eq-eqb z x e)
+  find_first x t bs z e = rw (find, named-same z x (ℕ_discrete z x), eq-eqb z x e)
 
   find-other : (x : ℕ) (t : Ty ℕ) (bs : List (Binding ℕ)) (z : ℕ) → (z ≡ x → ⊥) → find (numbered names) (x ≔ t ∷ bs) z ≡ find (numbered names) bs z
   unfolding find numbered
-  find-other x t bs z e = rw (find, picks z x (ℕ_discrete z x), ne_eqb z x e)
+  find-other x t bs z e = rw (find, named-same z x (ℕ_discrete z x), ne_eqb z x e)
 
   pub find-no : (x : ℕ) (bs : List (Binding ℕ)) → any (eqb x) (map variable bs) ≡ false → find (numbered names) bs x ≡ none
   unfolding find any
@@ -62,7 +39,7 @@ module _ (names : List Bytes) where
   find-no x (y ≔ t ∷ bs) h = go (ℕ_discrete x y) (find-no x bs)
     where
       go : Dec (x ≡ y) → (any (eqb x) (map variable bs) ≡ false → find (numbered names) bs x ≡ none) → find (numbered names) (y ≔ t ∷ bs) x ≡ none
-      go (yes p) ih = absurd (let z : true || any (eqb x) (map variable bs) ≡ false = rw (eq-eqb x y p) at h in let w : ◌≡◌ {A = ℕ} 0 1 = cc in omega arith)
+      go (yes p) ih = absurd (true≢false (rw (eq-eqb x y p) at h))
       go (no p) ih = find-other y t bs x p ∙ ih (rw (ne_eqb x y p) at h)
 
   module _ (k : Kind) (w : ℕ) where
@@ -104,7 +81,7 @@ module _ (names : List Bytes) where
             has-append (opensBelow names bs n) (opens_of n (find (numbered names) bs n))
             ∙ ap (λ m. has (opensBelow names bs n) || has (opens_of n m)) b ∙ ap (has (opensBelow names bs n) ||◌) has-nil
             ∙ or-false (has (opensBelow names bs n)) in
-            l ∙ or_swap (has (opensBelow names bs n)) (has (opens_of n (some t))) ∙ sym (rw (lt-ltb x (suc n) (omega arith), r, p))
+            l ∙ or_comm (has (opensBelow names bs n)) (has (opens_of n (some t))) ∙ sym (rw (lt-ltb x (suc n) (omega arith), r, p))
         go (no p) ih =
             let a : find (numbered names) (x ≔ t ∷ bs) n ≡ find (numbered names) bs n = find-other x t bs n p in
             let q : ltb x n ≡ ltb x (suc n) = same_test x n p in
@@ -128,7 +105,7 @@ module _ (names : List Bytes) where
         let l : x < 256 = h x t (find_first x t bs x refl) in
         let a : (ltb x 256 && has (opens_of x (some t))) ≡ has (opensBinding (x ≔ t)) = rw (lt-ltb x 256 l) in
         below_more x t bs 256 f
-        ∙ ap₂ ◌||◌ a (same_names bs r.1 (λ z u e. h z u (find-other x t bs z (λ q. clash-some (ap (find (numbered names) bs) q ∙ f) e) ∙ e)))
+        ∙ ap₂ ◌||◌ a (same_names bs r.1 (λ z u e. h z u (find-other x t bs z (λ q. some≢none (sym e ∙ ap (find (numbered names) bs) q ∙ f)) ∙ e)))
         ∙ sym (has-append (opensBinding (x ≔ t)) (collect opensBinding bs))
 
 -- so the same marks
