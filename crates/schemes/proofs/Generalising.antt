@@ -38,6 +38,7 @@ use Rattle.laws.specs.NameTable.{Good}
 use Rattle.laws.specs.ReadLists.{Every}
 use Rattle.laws.specs.Size.{size-ty}
 use Rattle.laws.specs.SortedNames.{sort-every}
+use Rattle.records.specs.ByView.{open-back}
 use Rattle.records.specs.Found.{Words32}
 use Rattle.records.specs.Given.{list-is}
 use Rattle.records.specs.Good.{Chain, numbers, holding, goodOpen, GoodBound, GoodScheme}
@@ -51,10 +52,9 @@ use Rattle.queries.specs.Marks.{Filled}
 use Rattle.queries.specs.ScanLaws.{type-opens}
 use Rattle.queries.specs.Scans.{choose, opensIn}
 use Rattle.queries.specs.declared.Kind.TheVariants.{Both}
-use Rattle.records_buffers.specs.Handed.{as_written, unwritten}
+use Rattle.records_buffers.specs.Handed.{made-records, as_written, unwritten}
 use Rattle.records_buffers.specs.Told.{Made, handed}
-use Rattle.schemes_handed.specs.Bounds.{open-view, bound-rec}
-use Rattle.schemes_quantify.specs.Core.{made-records}
+use Rattle.schemes_handed.specs.Bounds.{bound-rec}
 use Rattle.schemes_quantify.specs.Ready.{quantifiedBy}
 use Rattle.schemes.specs.Entry.{short}
 use Rattle.schemes.specs.Generalising.{Ready, generalisedFrom}
@@ -72,7 +72,7 @@ module _ (pool table s : List ℕ) where
       let (a, b) = bounds-written q n e bs c in
       let p = g.past in
       let r : from s at ≡ writeBound o ∷ from s (at + 1) = seen s at g.held.0 g.held.1 tt
-      ∙ ap (λ (x : Rec). x ∷ from s (at + 1)) (bound-rec (viewOpen o) ∙ ap writeBound (open-view o)) in
+      ∙ ap (λ (x : Rec). x ∷ from s (at + 1)) (bound-rec (viewOpen o) ∙ ap writeBound (open-back o)) in
       (r ∙ ap (λ (k : ℕ). writeBound o ∷ from s k) (sym p) ∙ ap (writeBound o ∷◌) a, omega arith)
 
   -- the words of all records, and how many these are

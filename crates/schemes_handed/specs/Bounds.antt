@@ -12,6 +12,7 @@ use Rattle.rules.specs.Trees as tree
 use Rattle.rules.specs.Trees.{Ty, opened}
 use Rattle.rules.specs.Writing.{Rec, writeBound}
 use Rattle.laws.specs.Lists.{some≢none}
+use Rattle.records.specs.ByView.{open-back}
 use Rattle.records.specs.Holds.{Shows, viewOpen, openOf}
 use Rattle.records.specs.Views.{viewAt, recOf}
 use Rattle.records.specs.declared.Open.{Open}
@@ -49,11 +50,6 @@ unfoldable pub BoundsAt : List ℕ → List (tree.Open ℕ) → ℕ → Type 0
 BoundsAt s [] at = at ≡ length s / 4
 BoundsAt s (o ∷ bs) at = Shows s at (view.Bound (viewOpen o)) × BoundsAt s bs (at + 1)
 
-pub open-view : (o : tree.Open ℕ) → openOf (viewOpen o) ≡ o
-open-view (tree.var x) = refl
-open-view (tree.quant i) = refl
-open-view (tree.par x) = refl
-
 -- they are one list, in one way
 only-bounds : (s : List ℕ) (bs cs : List (tree.Open ℕ)) (at : ℕ) → BoundsAt s bs at → BoundsAt s cs at → bs ≡ cs
 unfolding BoundsAt
@@ -63,7 +59,7 @@ only-bounds s (o ∷ bs) [] at h k = absurd (let z = seen-in s at h.0 tt in omeg
 only-bounds s (o ∷ bs) (u ∷ cs) at h k =
     let z : view.Bound (viewOpen o) ≡ view.Bound (viewOpen u) = sym h.0 ∙ k.0 in
     let y : viewOpen o ≡ viewOpen u = cc in
-    ap₂ ◌∷◌ (sym (open-view o) ∙ ap openOf y ∙ open-view u) (only-bounds s bs cs (at + 1) h.1 k.1)
+    ap₂ ◌∷◌ (sym (open-back o) ∙ ap openOf y ∙ open-back u) (only-bounds s bs cs (at + 1) h.1 k.1)
 
 bounds-once : (s : List ℕ) (bs : List (tree.Open ℕ)) (at : ℕ) → IsProp (BoundsAt s bs at)
 unfolding BoundsAt
@@ -139,7 +135,7 @@ module _ (s : List ℕ) (at : ℕ) where
   at_bound (u ∷ bs) o h e =
       let z : view.Bound (viewOpen u) ≡ view.Bound o = sym h.0 ∙ e in
       let y : viewOpen u ≡ o = cc in
-      (bs, (ap (λ (w : tree.Open ℕ). w ∷ bs) (sym (open-view u) ∙ ap openOf y), (h.1, seen-in s at e tt)))
+      (bs, (ap (λ (w : tree.Open ℕ). w ∷ bs) (sym (open-back u) ∙ ap openOf y), (h.1, seen-in s at e tt)))
 
   pub at-end : (bs : List (tree.Open ℕ)) → BoundsAt s bs at → ((o : Open) → viewAt s at ≡ view.Bound o → ⊥) → bs ≡ []
   unfolding BoundsAt

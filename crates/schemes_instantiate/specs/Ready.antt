@@ -25,12 +25,13 @@ use Rattle.replace.specs.Leaves.{Leaves}
 use Rattle.replace.proofs.Walks.{on, stopped}
 use Rattle.replace.specs.Well.{names as numbers, GoodTy, HeldType, Lent}
 use Rattle.replace.specs.Written.{ty-fits}
+use Rattle.records_buffers.specs.Handed.{made-refused}
 use Rattle.records_buffers.specs.Told.{Made}
 use Rattle.schemes_handed.specs.Back.{back-lent, own-lent}
 use Rattle.schemes_handed.specs.Bounds.{allBounds}
 use Rattle.schemes_handed.specs.declared.Handed.{Handed}
 use Rattle.schemes_handed.specs.Tables.{backPlaces, ownPlaces, ownTypes}
-use Rattle.schemes_quantify.specs.Core.{made-refused, made-writes}
+use Rattle.schemes_quantify.specs.Core.{made-writes}
 
 module _ (h : Handed) where
   -- quantified variables put back, then each held variable read by itself
@@ -97,7 +98,7 @@ module _ (h : Handed) (t : Ty ℕ) (bs : List (Open ℕ)) (y : Ready h t bs) whe
   Whole = putBackAs h t bs
 
   pub first-stopped : {w w' : Writer} {k : Refusal} (d : List ℕ) → Leaves writeTy w w' (Err k) (putType h t) → Made Whole d (Err k)
-  first-stopped {k = k} d l = made-refused Whole k d (rw (stopped l))
+  first-stopped {k = k} d l = made-refused k (rw (stopped l))
 
   module _ {w w' : Writer} (c : Came w w' (putType h t)) where
     abbrev its : Slim h bs c.value
@@ -127,7 +128,7 @@ module _ (h : Handed) (t : Ty ℕ) (bs : List (Open ℕ)) (y : Ready h t bs) whe
         omega (arith, ap (λ (d : List ℕ). length d) e, length-sets w.words.now (w.at * 4) (words (cut (writeTy c.value))), long)
 
     pub second-stopped : {v v' : Writer} {k : Refusal} (d : List ℕ) → Leaves writeTy v v' (Err k) (readType h c.value) → Made Whole d (Err k)
-    second-stopped {k = k} d l = made-refused Whole k d (rw (c.is, stopped l))
+    second-stopped {k = k} d l = made-refused k (rw (c.is, stopped l))
 
     pub all_made : {v v' v₁ : Writer} → v.at ≡ 0 → 16384 ≤ length v.words.now → Came v v' (readType h c.value)
         → Writes v' v₁ (map writeBound (newBounds h bs)) → Made Whole v₁.words.now (Ok v₁.at)
@@ -148,11 +149,11 @@ module _ (h : Handed) (t : Ty ℕ) (bs : List (Open ℕ)) (y : Ready h t bs) whe
 
 module _ (h : Handed) (n : ℕ) (t : Ty ℕ) (bs : List (Open ℕ)) where
   pub wrong-count : (w : List ℕ) → (n ≡ length h.numbers.now → ⊥) → Made (instantiatedAs h (scheme n t bs)) w (Err WrongCount)
-  wrong-count w f = made-refused (instantiatedAs h (scheme n t bs)) WrongCount w (rw (ne_eqb n (length h.numbers.now) f))
+  wrong-count w f = made-refused WrongCount (rw (ne_eqb n (length h.numbers.now) f))
 
   pub right-count : (w : List ℕ) (r : Result ℕ Refusal) → n ≡ length h.numbers.now → Made (putBackAs h t bs) w r → Made (instantiatedAs h (scheme n t bs)) w r
   right-count w r e m = rw (eq-eqb n (length h.numbers.now) e) m
 
 -- a concrete type
 pub no-scheme : (w : List ℕ) → Made (refused 9) w (Err WrongCount)
-no-scheme w = made-refused (refused 9) WrongCount w refl
+no-scheme w = made-refused WrongCount refl

@@ -1,54 +1,28 @@
 -- A scheme that was written from the start of the work buffer is what quantifying makes, or it is too long.
-use Rattle.std.specs.Prelude.{Ok, Err, ◌≡◌, take, drop, min}
-use Rattle.std.proofs.Common.{sym, subst, ◌∙◌, take_at}
+use Rattle.std.specs.Prelude.{Ok, Err, ◌≡◌, min}
+use Rattle.std.proofs.Common.{subst, ◌∙◌}
 use Rattle.std.proofs.Math.Path.{ap}
 use mathlib.Core.List.{List, ◌∷◌, ◌++◌, map}
 use Prim.Native.Nat.{ℕ, suc, ◌+◌, ◌*◌, ◌≤◌, ◌<◌}
 use native.Mathlib.Omega.{arith}
 use Rattle.std.proofs.Math.ListN.{length, length-append, length-map}
-use Rattle.std.proofs.Math.Seq.{sets, length-sets}
-use Rattle.std.proofs.lemmas.List.Edits.{sets-eq}
-use Rattle.rules.specs.Base.{Got, got, refused, ◌>>=◌, bounded}
-use Rattle.rules.specs.Refusals.{number_of}
+use Rattle.std.proofs.Math.Seq.{sets}
+use Rattle.rules.specs.Base.{Got, got, ◌>>=◌, bounded}
 use Rattle.rules.specs.Schemes.{scheme, schemeLimited}
 use Rattle.rules.specs.Trees.{Open, Ty, size, depth}
 use Rattle.rules.specs.Writing.{Rec, words, writeTy, writeBound, writeScheme}
-use Rattle.rules.specs.declared.Refusal.{Refusal}
 use Rattle.rules.specs.declared.Refusal.TheVariants.{TooLarge}
-use Rattle.laws.specs.Lists.{clash}
 use Rattle.laws.specs.Size.{size-ty}
 use Rattle.laws.specs.Sized.{sized-kept, sized-long}
-use Rattle.records.specs.Buffers.{words-length}
 use Rattle.records.specs.Cut.{fit, fits, cut, cut-length, short-ty}
 use Rattle.records.specs.Views.{recOf}
 use Rattle.records.specs.declared.View.TheVariants as view
 use Rattle.types.specs.declared.writer.Writer.{Writer}
 use Rattle.types.specs.Written.{last, Writes, Reserves, Begins, writes-then, part-writes}
-use Rattle.records_buffers.specs.Told.{Front, Made}
+use Rattle.records_buffers.specs.Handed.{made-refused, made-records}
+use Rattle.records_buffers.specs.Told.{Made}
 
--- records that were written from the start, where they fit, stand at the front
-pub front : (d d' : List ℕ) (rs : List Rec) → 16384 ≤ length d → d' ≡ sets d 0 (words rs) → length rs ≤ 2048 → Front rs d'
-front d d' rs room e le =
-    let n = words-length rs in
-    let z : d' ≡ words rs ++ drop (0 + length (words rs)) d = e ∙ sets-eq (words rs) d 0 (omega arith) in
-    record {
-      few = le;
-      room = omega (arith, ap length e ∙ length-sets d 0 (words rs));
-      there = ap (take (length rs * 4)) z ∙ take_at (words rs) (drop (0 + length (words rs)) d) (length rs * 4) n;
-    }
-
--- made: these records, or a refusal
-pub made-records : (m : Got (List Rec)) (rs : List Rec) (d d' : List ℕ) (n : ℕ) → m ≡ got rs → 16384 ≤ length d → d' ≡ sets d 0 (words rs)
-    → n ≡ length rs → n ≤ 2048 → Made m d' (Ok n)
-made-records m rs d d' n e room b l le = record {
-  answer = rw (e, l);
-  front = λ ss i. let z : rs ≡ ss = let k : got rs ≡ got ss = sym e ∙ i in cc in rw (sym z) (front d d' rs room b (omega arith));
-}
-
-pub made-refused : (m : Got (List Rec)) (k : Refusal) (w : List ℕ) → m ≡ refused (number_of k) → Made m w (Err k)
-made-refused m k w e = record { answer = sym (rw e); front = λ rs i. clash (sym e ∙ i) }
-
--- made: these records behind a writer that begins at the start, or a refusal
+-- made: these records behind a writer that begins at the start
 pub made-writes : (m : Got (List Rec)) (rs : List Rec) {w w' : Writer} (n : ℕ) → m ≡ got rs → w.at ≡ 0 → 16384 ≤ length w.words.now → Writes w w' rs
     → n ≡ length rs → n ≤ 2048
     → Made m w'.words.now (Ok n)
@@ -73,7 +47,7 @@ module _ (n : ℕ) (bs : List (Open ℕ)) where
   module _ (R : Got (Ty ℕ)) (u : Ty ℕ) (e : R ≡ got u) (flat : depth u ≤ 64) where
     pub too_long : (w : List ℕ) → 2048 < 1 + (size u + length bs) → Made (limitedScheme R) w (Err TooLarge)
     unfolding schemeLimited
-    too_long w h = made-refused (limitedScheme R) TooLarge w (rw (e, sized-long (1 + (size u + length bs)) (depth u) (scheme n u bs) h))
+    too_long w h = made-refused TooLarge (rw (e, sized-long (1 + (size u + length bs)) (depth u) (scheme n u bs) h))
 
     -- how far they go
     pub past : {w w₁ w₂ w₃ : Writer} {start : ℕ} → w.at ≡ 0 → Reserves w w₁ start → Writes w₁ w₂ (cut (writeTy u)) → Writes w₂ w₃ (map writeBound bs)

@@ -20,12 +20,13 @@ use Rattle.types.specs.Written.{Writes, Reserves, Begins}
 use Rattle.replace.specs.Leaves.{Leaves}
 use Rattle.replace.specs.Well.{GoodTy, Lent}
 use Rattle.replace.proofs.Walks.{on, stopped}
+use Rattle.records_buffers.specs.Handed.{made-refused}
 use Rattle.records_buffers.specs.Told.{Made}
 use Rattle.schemes_handed.specs.Bounds.{allBounds}
 use Rattle.schemes_handed.specs.Said.{quant-lent}
 use Rattle.schemes_handed.specs.Tables.{quantPlaces, quantTypes}
 use Rattle.schemes_handed.specs.declared.Handed.{Handed}
-use Rattle.schemes_quantify.specs.Core.{made-refused, too_long, past, made-scheme, limitedScheme}
+use Rattle.schemes_quantify.specs.Core.{too_long, past, made-scheme, limitedScheme}
 
 -- by the words of a table and of handed numbers
 module _ (pool table numbers : List ℕ) where
@@ -66,7 +67,7 @@ module _ (h : Handed) (all : Bool) (t : Ty ℕ) (bs : List (Open ℕ)) where
 
   pub type-stopped : {w w' : Writer} {k : Refusal} (d : List ℕ) → Leaves writeTy w w' (Err k) (renamedType h t)
       → Made (quantifiedAs h all t bs) d (Err k)
-  type-stopped {k = k} d l = made-refused (quantifiedAs h all t bs) k d (rw (stopped l))
+  type-stopped {k = k} d l = made-refused k (rw (stopped l))
 
   module _ (flat : depth t ≤ 64) where
     shallow : (u : Ty ℕ) → renamedType h t ≡ got u → depth u ≤ 64
