@@ -24,7 +24,7 @@ use Rattle.rules.specs.Calls.{
   generalised,
   generaliseCall,
 }
-use Rattle.rules.specs.Contents.{sort, namesIn, unmixed}
+use Rattle.rules.specs.Contents.{sort, namesIn}
 use Rattle.rules.specs.Names.{Table, table_of, numbersOf}
 use Rattle.rules.specs.Reading.{readBound}
 use Rattle.rules.specs.Schemes.{Scheme, concrete, scheme, generalise}
@@ -56,11 +56,11 @@ use Rattle.records_buffers.specs.Handed.{made-records, as_written, unwritten}
 use Rattle.records_buffers.specs.Told.{Made, handed}
 use Rattle.schemes_handed.specs.Bounds.{bound-rec}
 use Rattle.schemes_quantify.specs.Ready.{quantifiedBy}
-use Rattle.schemes.specs.Entry.{short}
 use Rattle.schemes.specs.Generalising.{Ready, generalisedFrom}
 use Rattle.schemes.proofs.Called.{handed-on}
 use Rattle.schemes.proofs.Generalised.{ordered, generalise-made}
 use Rattle.schemes.proofs.Rows.{IsRow}
+use Rattle.schemes.proofs.Schemes.{are-apart}
 
 -- ══ A scheme's records are those it is written by ══
 
@@ -117,7 +117,7 @@ then-nothing (got u) = refl
 then-nothing (refused n) = refl
 
 pub generalise-row : (t : Table) (s bounds : List ℕ)
-    → IsRow (λ x. apart t (opensScheme x)) (λ x bs. generalise (numbersOf t) bounded (map word_of bs) x >>= λ r. got (writeScheme r)) (short s bounds [])
+    → IsRow (λ x. apart t (opensScheme x)) (λ x bs. generalise (numbersOf t) bounded (map word_of bs) x >>= λ r. got (writeScheme r)) s bounds []
     (tableKept t) (schemeGiven t s) (boundsGiven t bounds) (got (tt {0})) (generalised t s bounds)
 unfolding generalised shortNumbers
 generalise-row t s bounds = record {
@@ -146,14 +146,17 @@ module _ (pool table s : List ℕ) where
 -- ══ A concrete type ══
 
 -- what was given passed its tests
-module _ (pool table s bounds : List ℕ) (w : Words32 s) (t : Ty ℕ) (e : schemeGiven (table_of pool table) s ≡ got (concrete t)) where
+module _ (pool table s bounds : List ℕ) (w : Words32 s) (sc : Scheme ℕ) (e : schemeGiven (table_of pool table) s ≡ got sc) {t : Ty ℕ} (is : sc ≡ concrete t) where
   concrete-good : GoodScheme pool table s (concrete t)
-  concrete-good = scheme-is pool table s w (concrete t) e
+  concrete-good = subst (GoodScheme pool table s) is (scheme-is pool table s w sc e)
 
   pub type-ready : (bs : List (tree.Open ℕ)) → boundsGiven (table_of pool table) bounds ≡ got bs
-      → unmixed (numbersOf (table_of pool table)) (opensScheme (concrete t)) ≡ true → Ready pool table t bs
+      → apart (table_of pool table) (opensScheme sc) ≡ got tt → Ready pool table t bs
   unfolding opensScheme
-  type-ready bs b u = let g = concrete-good.1 in record { good = g.good; flat = g.deep; unmix = u; named = bounds-named pool table bounds bs b }
+  type-ready bs b u =
+      let g = concrete-good.1 in
+      let k : apart (table_of pool table) (opensScheme (concrete t)) ≡ got tt = rw is at u in
+      record { good = g.good; flat = g.deep; unmix = are-apart (table_of pool table) (opens t) k; named = bounds-named pool table bounds bs b }
 
 module _ (pool table : List ℕ) (good : Good pool table) (t : Ty ℕ) (bs : List (tree.Open ℕ)) (y : Ready pool table t bs) (s : List ℕ) (at : ℕ)
     (h : Holds s t at) (end : ℕ) (e : end ≡ at + size t) where

@@ -33,7 +33,6 @@ use Rattle.records_buffers.specs.Told.{Made, handed}
 use Rattle.schemes_handed.proofs.Tested.{chain-bounds}
 use Rattle.schemes_handed.specs.declared.Handed.{Handed}
 use Rattle.schemes_instantiate.specs.Ready.{putBackAs, instantiatedAs, Slim, Ready, ReadyScheme}
-use Rattle.schemes.specs.Entry.{short}
 use Rattle.schemes.proofs.Called.{handed-on}
 use Rattle.schemes.proofs.Rows.{IsRow}
 use Rattle.schemes.proofs.Whole.{tells, all_renamed}
@@ -72,7 +71,7 @@ module _ (pool table : List ℕ) where
 
 pub instantiate-row : (t : Table) (given numbers : List ℕ)
     → IsRow {B = List (tree.Open ℕ)} (λ s. apart t (opensScheme s))
-    (λ s bs. instantiate (numbersOf t) bounded numbers s >>= λ r. got (writeTy r.0 ++ map writeBound r.1)) (short given [] numbers)
+    (λ s bs. instantiate (numbersOf t) bounded numbers s >>= λ r. got (writeTy r.0 ++ map writeBound r.1)) given [] numbers
     (tableKept t) (schemeGiven t given) (got []) (numbersGiven t numbers) (instantiated t given numbers)
 unfolding instantiated shortLists all
 instantiate-row t given numbers = record { is = refl }

@@ -1,37 +1,24 @@
 -- A row of checks: lists that are short, the table, a first list, bounds, handed numbers, and what is asked of the first; and then what is made.
-use Rattle.std.specs.Prelude.{◌≡◌, refl, Bool, true, false, ◌&&◌, List, [], ◌∷◌, ℕ, ◌≤◌, ◌<◌, leb, length}
+use Rattle.std.specs.Prelude.{Result, Err, ◌≡◌, refl, Bool, true, false, ◌&&◌, List, [], ◌∷◌, ℕ, ◌≤◌, ◌<◌, leb, length}
 use Rattle.std.proofs.Common.{sym, ap, ◌∙◌, le-leb}
 use Rattle.std.proofs.lemmas.Bool.{lt-leb}
 use borrow.Author.Tests.{leb-true}
 use Rattle.rules.specs.Base.{Got, got, refused, ◌>>=◌, ◌>>◌, need, all}
 use Rattle.rules.specs.Calls.{shortLists, shortNumbers}
+use Rattle.rules.specs.Refusals.{number_of}
+use Rattle.rules.specs.Writing.{Rec}
+use Rattle.rules.specs.declared.Refusal.{Refusal}
 use Rattle.laws.specs.Checks.{need-passed, first-passed, next-passed}
 use Rattle.laws.specs.Lists.{and_left}
+use Rattle.records_buffers.specs.Handed.{made-refused}
+use Rattle.records_buffers.specs.Told.{Made}
 use Rattle.schemes.specs.Entry.{short}
+use Rattle.schemes.proofs.Called.{made-as}
 
 -- all of a call
-pub record IsRow {A B C : Type 0} (f : A → Got (Unit {0})) (g : A → B → Got C) (s k : Got (Unit {0})) (m : Got A) (b : Got B) (n : Got (Unit {0})) (all : Got C)
+pub record IsRow {A B C : Type 0} (f : A → Got (Unit {0})) (g : A → B → Got C) (ws bounds numbers : List ℕ) (k : Got (Unit {0})) (m : Got A) (b : Got B) (n : Got (Unit {0})) (all : Got C)
     : Type 0 where
-  pub is : all ≡ (s >> (k >> (m >>= λ a. b >>= λ c. n >> (f a >> g a c))))
-
-module _ {A B C : Type 0} {f : A → Got (Unit {0})} {g : A → B → Got C} {s k : Got (Unit {0})} {m : Got A} {b : Got B} {n : Got (Unit {0})} {all : Got C}
-    (r : IsRow f g s k m b n all) (e : got tt ≡ s) (h : k ≡ got tt) where
-  -- the first of them that is refused
-  pub first-refused : {j : ℕ} → m ≡ refused j → all ≡ refused j
-  first-refused i = r.is ∙ rw (sym e, h, i)
-
-  pub bounds-refused : {j : ℕ} {a : A} → m ≡ got a → b ≡ refused j → all ≡ refused j
-  bounds-refused i l = r.is ∙ rw (sym e, h, i, l)
-
-  pub numbers-refused : {j : ℕ} {a : A} {c : B} → m ≡ got a → b ≡ got c → n ≡ refused j → all ≡ refused j
-  numbers-refused i l o = r.is ∙ rw (sym e, h, i, l, o)
-
-  pub mixed-refused : {j : ℕ} {a : A} {c : B} → m ≡ got a → b ≡ got c → n ≡ got tt → f a ≡ refused j → all ≡ refused j
-  mixed-refused i l o p = r.is ∙ rw (sym e, h, i, l, o, p)
-
-  -- where none is, what is made
-  pub met : {a : A} {c : B} → m ≡ got a → b ≡ got c → n ≡ got tt → f a ≡ got tt → all ≡ g a c
-  met i l o p = r.is ∙ rw (sym e, h, i, l, o, p)
+  pub is : all ≡ (short ws bounds numbers >> (k >> (m >>= λ a. b >>= λ c. n >> (f a >> g a c))))
 
 -- ══ Lists that are short ══
 
@@ -84,5 +71,41 @@ module _ (ws bounds numbers : List ℕ) where
       pub bounds-alone : {r : Got A} → r ≡ (shortLists (bounds ∷ []) >> m) → m ≡ r
       bounds-alone i = sym (i ∙ rw (next-passed (shortLists (bounds ∷ [])) tt (shortLists (ws ∷ [])) both))
 
-      pub numbers-alone : {r : Got A} → r ≡ (shortNumbers numbers >> m) → m ≡ r
+      numbers-alone : {r : Got A} → r ≡ (shortNumbers numbers >> m) → m ≡ r
       numbers-alone i = sym (i ∙ rw numbers-few)
+
+-- where a call has no bounds, or no numbers
+pub no-bounds : {A : Type 0} → ◌≡◌ {A = Got (List A)} (got []) (shortLists ([] ∷ []) >> got [])
+unfolding shortLists all
+no-bounds = refl
+
+pub no-numbers : got tt ≡ (shortNumbers {A = ℕ} [] >> got (tt {0}))
+unfolding shortNumbers
+no-numbers = refl
+
+-- ══ What is made ══
+
+module _ {A B : Type 0} {f : A → Got (Unit {0})} {g : A → B → Got (List Rec)} {k n : Got (Unit {0})} {m : Got A} {b : Got B} {all : Got (List Rec)}
+    {ws bounds numbers : List ℕ} (r : IsRow f g ws bounds numbers k m b n all) (e : got tt ≡ short ws bounds numbers) (h : k ≡ got tt) where
+  -- the first of them that is refused, as each list tells it
+  pub first-refused : {w : List ℕ} (why : Refusal) → refused (number_of why) ≡ (shortLists (ws ∷ []) >> m) → Made all w (Err why)
+  first-refused why i = made-refused why (r.is ∙ rw (sym e, h, first-alone ws bounds numbers e m i))
+
+  module _ {a : A} (i : got a ≡ (shortLists (ws ∷ []) >> m)) where
+    pub bounds-refused : {w : List ℕ} (why : Refusal) → refused (number_of why) ≡ (shortLists (bounds ∷ []) >> b) → Made all w (Err why)
+    bounds-refused why l = made-refused why (r.is ∙ rw (sym e, h, first-alone ws bounds numbers e m i, bounds-alone ws bounds numbers e b l))
+
+    module _ {c : B} (l : got c ≡ (shortLists (bounds ∷ []) >> b)) where
+      past-bounds : all ≡ (n >> (f a >> g a c))
+      past-bounds = r.is ∙ rw (sym e, h, first-alone ws bounds numbers e m i, bounds-alone ws bounds numbers e b l)
+
+      pub numbers-refused : {w : List ℕ} (why : Refusal) → refused (number_of why) ≡ (shortNumbers numbers >> n) → Made all w (Err why)
+      numbers-refused why o = made-refused why (past-bounds ∙ rw (numbers-alone ws bounds numbers e n o))
+
+      module _ (o : got tt ≡ (shortNumbers numbers >> n)) where
+        pub mixed-refused : {w : List ℕ} (why : Refusal) → f a ≡ refused (number_of why) → Made all w (Err why)
+        mixed-refused why p = made-refused why (past-bounds ∙ rw (numbers-alone ws bounds numbers e n o, p))
+
+        -- where none is, what is made
+        pub met : f a ≡ got tt → {w : List ℕ} {x : Result ℕ Refusal} → Made (g a c) w x → Made all w x
+        met p q = made-as (past-bounds ∙ rw (numbers-alone ws bounds numbers e n o, p)) q

@@ -1,18 +1,21 @@
 -- What was given by its words: its open names are those of its type, so the check of 4 can be made.
-use Rattle.std.specs.Prelude.{◌≡◌, ℕ, ◌+◌, ◌-◌, ◌/◌, ◌≤◌}
-use Rattle.std.proofs.Math.Path.{refl, sym}
+use Rattle.std.specs.Prelude.{◌≡◌, true, ℕ, ◌+◌, ◌-◌, ◌/◌, ◌≤◌}
+use Rattle.std.proofs.Math.Path.{refl, sym, ap}
 use Rattle.std.proofs.Common.{◌∙◌}
 use mathlib.Core.List.{List, [], ◌∷◌, append-nil}
 use native.Mathlib.Omega.{arith}
 use Rattle.std.proofs.Math.ListN.{length, get_or}
-use Rattle.rules.specs.Base.{got, collect}
-use Rattle.rules.specs.Calls.{typeGiven, schemeGiven, opensScheme}
-use Rattle.rules.specs.Names.{table_of}
+use Rattle.rules.specs.Base.{Got, got, ◌>>◌, need, collect}
+use Rattle.rules.specs.Calls.{shortLists, typeGiven, schemeGiven, opensScheme, apart}
+use Rattle.rules.specs.Contents.{unmixed}
+use Rattle.rules.specs.Names.{Table, numbersOf}
 use Rattle.rules.specs.Schemes.{Scheme, concrete, scheme}
 use Rattle.rules.specs.Trees as tree
 use Rattle.rules.specs.Trees.{Ty, opens, size}
+use Rattle.laws.specs.Checks.{need-passed}
 use Rattle.laws.specs.KnownNames.{ty-known}
-use Rattle.laws.specs.NameTable.{Good, good-laid}
+use Rattle.laws.specs.NameTable.{good-laid}
+use Rattle.names.specs.declared.tables.NameTable.{NameTable}
 use Rattle.records.specs.Found.{Words32}
 use Rattle.records.specs.Good.{Chain, numbers, holding, GoodBound, GoodScheme}
 use Rattle.records.specs.Places.{seen-in}
@@ -22,6 +25,9 @@ use Rattle.queries.specs.GoodOpens.{names-small}
 use Rattle.queries.specs.Marks.{Small}
 use Rattle.queries.specs.ScanLaws.{opens-none, opens-step, opens-join, ty-opens, type-opens, chain-opens}
 use Rattle.queries.specs.Scans.{opensIn}
+use Rattle.types.proofs.Tested.{over}
+use Rattle.schemes.specs.Entry.{short}
+use Rattle.schemes.proofs.Rows.{first-alone}
 
 module _ (pool table s : List ℕ) where
   abbrev without : tree.Open ℕ → List (tree.Open ℕ)
@@ -62,21 +68,48 @@ module _ (pool table s : List ℕ) where
   held-small (scheme n t bs) (v, (e, (g, c)), m) few = rw (held-opens (scheme n t bs) (v, (e, (g, c)), m))
       (names-small pool table n (opens t) (ty-known (numbers pool table) (holding pool table) n t g.good) few)
 
-  module _ (w : Words32 s) (good : Good pool table) where
-    module _ (sc : Scheme ℕ) (e : schemeGiven (table_of pool table) s ≡ got sc) where
-      pub scheme-small : Small (opensIn s 0 (length s / 4))
-      scheme-small = held-small sc (scheme-is pool table s w sc e) (good-laid good).few
+-- asked of a list's words it is asked of what they hold
+asked-of-words : (t : Table) {os ps : List (tree.Open ℕ)} {r : Got (Unit {0})} → os ≡ ps → r ≡ need (unmixed (numbersOf t) os) 4 → apart t ps ≡ r
+unfolding apart
+asked-of-words t e i = sym (i ∙ ap (λ (x : List (tree.Open ℕ)). need (unmixed (numbersOf t) x) 4) e)
 
-      pub scheme-opens : opensIn s 0 (length s / 4) ≡ opensScheme sc
-      scheme-opens = held-opens sc (scheme-is pool table s w sc e)
+pub are-apart : (t : Table) (os : List (tree.Open ℕ)) → apart t os ≡ got tt → unmixed (numbersOf t) os ≡ true
+unfolding apart
+are-apart t os e = need-passed (unmixed (numbersOf t) os) 4 e
 
-    module _ (t : Ty ℕ) (e : typeGiven (table_of pool table) s ≡ got t) where
-      pub words-opens : opensIn s 0 (length s / 4) ≡ opens t
-      words-opens =
-          let k = type-is pool table s w t e in
-          let z : length s / 4 ≡ 0 + size t = k.past in
-          rw z (type-opens s t 0 k.held)
+module _ (n : NameTable) (s bounds names : List ℕ) (short : got tt ≡ short s bounds names) (w : Words32 s) where
+  abbrev all : List (tree.Open ℕ)
+  all = opensIn s 0 (length s / 4)
 
-      pub type-small : Small (opensIn s 0 (length s / 4))
-      type-small = rw words-opens
-          (names-small pool table 0 (opens t) (ty-known (numbers pool table) (holding pool table) 0 t (type-is pool table s w t e).good) (good-laid good).few)
+  module _ {sc : Scheme ℕ} (i : got sc ≡ (shortLists (s ∷ []) >> schemeGiven (over n) s)) where
+    pub scheme-given : schemeGiven (over n) s ≡ got sc
+    scheme-given = first-alone s bounds names short (schemeGiven (over n) s) i
+
+    its : GoodScheme n.pool.now n.table.now s sc
+    its = scheme-is n.pool.now n.table.now s w sc scheme-given
+
+    pub scheme-small : Small all
+    scheme-small = held-small n.pool.now n.table.now s sc its (good-laid n.good).few
+
+    pub scheme-apart : {r : Got (Unit {0})} → r ≡ need (unmixed (numbersOf (over n)) all) 4 → apart (over n) (opensScheme sc) ≡ r
+    scheme-apart k = asked-of-words (over n) (held-opens n.pool.now n.table.now s sc its) k
+
+  module _ {t : Ty ℕ} (i : got t ≡ (shortLists (s ∷ []) >> typeGiven (over n) s)) where
+    pub type-given : typeGiven (over n) s ≡ got t
+    type-given = first-alone s bounds names short (typeGiven (over n) s) i
+
+    words-opens : all ≡ opens t
+    words-opens =
+        let k = type-is n.pool.now n.table.now s w t type-given in
+        let z : length s / 4 ≡ 0 + size t = k.past in
+        rw z (type-opens s t 0 k.held)
+
+    pub type-small : Small all
+    type-small =
+        let k = type-is n.pool.now n.table.now s w t type-given in
+        rw words-opens
+        (names-small n.pool.now n.table.now 0 (opens t) (ty-known (numbers n.pool.now n.table.now) (holding n.pool.now n.table.now) 0 t k.good)
+        (good-laid n.good).few)
+
+    pub type-apart : {r : Got (Unit {0})} → r ≡ need (unmixed (numbersOf (over n)) all) 4 → apart (over n) (opens t) ≡ r
+    type-apart k = asked-of-words (over n) words-opens k

@@ -31,7 +31,6 @@ use Rattle.records_buffers.specs.Told.{Made, handed}
 use Rattle.schemes_handed.specs.Bounds.{Rename, allBounds}
 use Rattle.schemes_handed.specs.declared.Handed.{Handed}
 use Rattle.schemes_quantify.specs.Ready.{Sound, quantifiedAs}
-use Rattle.schemes.specs.Entry.{short}
 use Rattle.schemes.proofs.Called.{handed-on}
 use Rattle.schemes.proofs.Rows.{IsRow}
 
@@ -70,7 +69,7 @@ module _ (pool table : List ℕ) where
   quantifiedFrom numbers t bs = quantify (numbersOf (table_of pool table)) bounded numbers t bs >>= λ s. got (writeScheme s)
 
 pub quantify-row : (t : Table) (ws bounds numbers : List ℕ)
-    → IsRow (λ x. apart t (opens x)) (λ x bs. quantify (numbersOf t) bounded numbers x bs >>= λ s. got (writeScheme s)) (short ws bounds numbers)
+    → IsRow (λ x. apart t (opens x)) (λ x bs. quantify (numbersOf t) bounded numbers x bs >>= λ s. got (writeScheme s)) ws bounds numbers
     (tableKept t) (typeGiven t ws) (boundsGiven t bounds) (numbersGiven t numbers)
     (quantified t ws bounds numbers)
 unfolding quantified

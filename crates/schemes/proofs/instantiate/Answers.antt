@@ -4,7 +4,7 @@ use mathlib.Core.Bool.{not}
 use Rattle.std.proofs.Common.{sym}
 use Rattle.records_buffers.specs.Lent.{Long, long, short}
 use Rattle.schemes.proofs.Instantiated.{instantiate-row, instantiate-short, instantiate-called}
-use Rattle.schemes.proofs.Called.{tested, made-as}
+use Rattle.schemes.proofs.Called.{over_tested, made-as}
 use Rattle.schemes.proofs.instantiate.Goals as goal
 
 pub returns-then-not-lent : goal.returns-then-not-lent
@@ -24,7 +24,7 @@ pub returns : goal.returns
 returns c =
     let a = c.args in
     let enough : Long a.pool.now a.table.now a.res.now a.work.now = long _ _ _ _ c.lent.result c.lent.ensures (ap not c.if-not-lent.false) in
-    let over = tested _ _ _ (λ t. (instantiate-row t a.given.now a.names.now).is) a.pool.now
+    let over = over_tested _ _ _ (λ t. (instantiate-row t a.given.now a.names.now).is) a.pool.now
     a.table.now enough.table-met _ c.new-tested.ensures.answer c.new-tested.ensures.same in
     c.hand_over.ensures _ (made-as (sym over) c.make_instantiated-made.ensures)
     ∙ instantiate-called _ _ _ _ _ _ c.make_instantiated-made.new.work c.make_instantiated-made.auto.work enough.met
