@@ -8,11 +8,11 @@ use Rattle.rules.specs.Names.{Table, table_of, numbersOf, tableGiven, lentTable}
 use Rattle.rules.specs.Refusals.{number_of, toldBy}
 use Rattle.rules.specs.Trees.{Open, Binding}
 use Rattle.rules.specs.declared.Refusal.{Refusal}
-use Rattle.laws.specs.Lists.{clash}
 use Rattle.names.specs.Told.{unit_of}
 use Rattle.names.specs.declared.tables.NameTable.{NameTable}
 use Rattle.types.specs.Given.{list_over}
-use Rattle.types.proofs.Tested.{over, kept, as-refused, short, given}
+use Rattle.types.proofs.Tested as over_table
+use Rattle.types.proofs.Tested.{over, kept, past_table, as-refused, short, given}
 use Rattle.replace_calls.specs.Entry.{both_over}
 
 -- ══ The check of 8 ══
@@ -30,11 +30,9 @@ second-first ws binds = go (leb (length ws) 8192) (leb (length binds) 8192)
 
 -- ══ The calls ══
 
+-- what refuses before the table is asked, or over it, refuses whatever comes behind
 unmet : {A B : Type 0} (s k : Got (Unit {0})) (m : Got A) (g : A → Got B) (n : ℕ) → k ≡ got tt → refused n ≡ (s >> m) → (s >> (k >> (m >>= g))) ≡ refused n
-unmet (refused i) k m g n h e = cc
-unmet (got x) (refused i) m g n h e = clash h
-unmet (got x) (got y) (refused i) g n h e = cc
-unmet (got x) (got y) (got a) g n h e = clash e
+unmet s k m g n h e = past_table s k m g h ∙ ap (λ x. x >>= g) (sym e)
 
 -- a list and bindings, no name of both a variable and a parameter; what is made of them
 module _ {A B : Type 0} (first : Table → List ℕ → Got A) (os : A → List (Open ℕ)) (make : Table → A → List (Binding ℕ) → Got B) where
@@ -84,15 +82,6 @@ module _ {A B : Type 0} (first : Table → List ℕ → Got A) (os : A → List 
 
   -- over the table that was tested it is what the call asks
   module _ (pool table : List ℕ) (l : lentTable pool table ≡ got tt) (ws binds : List ℕ) where
-    refused-table : (k : ℕ) (a : Got (Unit {0})) → tableKept (table_of pool table) ≡ a → refused k ≡ (lentTable pool table >> a)
-        → (shortLists (ws ∷ binds ∷ []) >> refused k) ≡ asked (table_of pool table) ws binds
-    refused-table k (got u) q e = clash (let z : refused k ≡ got u = rw l at e in z)
-    refused-table k (refused j) q e =
-        let z : refused k ≡ refused j = rw l at e in
-        ap (λ (b : Got (Unit {0})). past (table_of pool table) b ws binds) (z ∙ sym q)
-
     pub tested : (names : Result NameTable Refusal) → toldBy unit_of names ≡ tableGiven pool table
         → IfOk names (λ n. (n.pool.now ≡ pool) × (n.table.now ≡ table)) → both_over names asked ws binds ≡ asked (table_of pool table) ws binds
-    unfolding tableGiven tableKept
-    tested (Ok n) e i = ap₂ (λ (p q : List ℕ). asked (table_of p q) ws binds) i.0 i.1
-    tested (Err why) e i = refused-table (number_of why) (tableKept (table_of pool table)) refl e
+    tested = over_table.tested (λ t k. past t k ws binds) pool table l (λ names. both_over names asked ws binds) (λ n. refl) (λ why. refl)

@@ -76,16 +76,16 @@ module _ {A : Type 0} (long deep : A → ℕ) (write : A → List Rec) (lengths 
           ∙ ap₂ (λ (i : ℕ) (rs : List Rec). sets w.words.now (i * 4) (words rs)) start (short c.value (omega (arith, h)))
 
     -- the walk came to its end
-    pub made-to : (R : Got A) (behind : List ℕ) (r : Result ℕ Refusal) (c : Came write w w' R) → told r ≡ counted long deep c.value
-        → Made (limitedTo long deep write R) (w'.words.now ++ behind) r
-    made-to R behind r c h = record {
+    pub made-to : (R : Got A) (d behind : List ℕ) (r : Result ℕ Refusal) (c : Came write w w' R) → d ≡ w'.words.now → told r ≡ counted long deep c.value
+        → Made (limitedTo long deep write R) (d ++ behind) r
+    made-to R d behind r c i h = record {
       answer = h ∙ count-is a (sized bounded (long a) (deep a) a) ∙ sym (ap (λ (m : Got A). limitedTo long deep write m >>= λ rs. got (length rs)) c.is);
       front = λ rs e.
           let (b, (g, z)) = written a (sized bounded (long a) (deep a) a) rs (sym (ap (limitedTo long deep write) c.is) ∙ e) in
           let k : a ≡ b = sized_same (long a) (deep a) a bounded b g in
           let le = sized-small (long a) (deep a) a b g in
-          subst (λ (x : List Rec). Front x (w'.words.now ++ behind)) (ap write k ∙ z)
-          (front w.words.now w'.words.now behind (write a) room (buffer c le) (omega (arith, lengths a)));
+          subst (λ (x : List Rec). Front x (d ++ behind)) (ap write k ∙ z)
+          (front w.words.now d behind (write a) room (i ∙ buffer c le) (omega (arith, lengths a)));
     }
       where
         a : A
@@ -170,15 +170,15 @@ module _ (pool table : List ℕ) (bs : List (Binding ℕ)) (fine : FineBindings 
     type-kept : (u : Ty ℕ) → replaceTy (numbers pool table) bounded look t ≡ got u → goodTy (numbers pool table) (holding pool table) 0 u ≡ true
     type-kept u e = (laws.ty_kept (numbers pool table) (law pool table) (holding pool table) 0 look becomes-good t good).holds u e
 
-    pub type-stands : {w w' : Writer} → w.at ≡ 0 → 8192 ≤ length w.words.now
-        → (k : Came writeTy w w' (replaceTy (numbers pool table) bounded look t)) → TypeStands pool table w'.words.now w'.at k.value
-    type-stands {w} {w'} start room k = record {
+    pub type-stands : {w w' : Writer} {d : List ℕ} → w.at ≡ 0 → 8192 ≤ length w.words.now → d ≡ w'.words.now
+        → (k : Came writeTy w w' (replaceTy (numbers pool table) bounded look t)) → TypeStands pool table d w'.at k.value
+    type-stands {w} {w'} {d} start room q k = record {
       many = many size depth writeTy size-ty short-ty w w' start room k;
       held = λ le.
           let u : Ty ℕ = k.value in
           let i = size-ty u in
-          let b = buffer size depth writeTy size-ty short-ty w w' start room k le in
-          held w'.words.now u 0 (from w.words.now (0 + length (writeTy u))) (ty-fits (numbers pool table) (holding pool table) 0 u (type-kept u k.is))
+          let b = q ∙ buffer size depth writeTy size-ty short-ty w w' start room k le in
+          held d u 0 (from w.words.now (0 + length (writeTy u))) (ty-fits (numbers pool table) (holding pool table) 0 u (type-kept u k.is))
           (ap (λ (x : List ℕ). from x 0) b ∙ stored w.words.now (writeTy u) 0 (omega arith));
       good = type-kept k.value k.is;
     }
@@ -195,17 +195,18 @@ module _ (pool table : List ℕ) (bs : List (Binding ℕ)) (fine : FineBindings 
     set-kept : (ds : List (Con ℕ)) → each (replaceCon (numbers pool table) bounded look) cs ≡ got ds → all (records.goodCon pool table 0) ds ≡ true
     set-kept ds e = (cons-kept pool table look becomes-good cs good).holds ds e
 
-    pub set-stands : {w w' : Writer} → w.at ≡ 0 → length w.words.now ≡ 8192
+    pub set-stands : {w w' : Writer} {d : List ℕ} → w.at ≡ 0 → length w.words.now ≡ 8192 → d ≡ w'.words.now
         → (k : Came (collect writeCon) w w' (each (replaceCon (numbers pool table) bounded look) cs))
-        → SetStands pool table w'.words.now w'.at k.value
-    set-stands {w} {w'} start room k =
+        → SetStands pool table d w'.at k.value
+    set-stands {w} {w'} {d} start room q k =
         let long = many (sum_of sizeCon) (max_of depthCon) (collect writeCon) set-length short-set w w' start (omega (arith, room)) k in
-        let stands = buffer (sum_of sizeCon) (max_of depthCon) (collect writeCon) set-length short-set w w' start (omega (arith, room)) k in record {
+        let b = buffer (sum_of sizeCon) (max_of depthCon) (collect writeCon) set-length short-set w w' start (omega (arith, room)) k in
+        let stands : sum_of sizeCon k.value ≤ 2048 → d ≡ sets w.words.now 0 (words (collect writeCon k.value)) = λ le. q ∙ b le in record {
           many = long;
           held = λ le.
               let i : 0 + sum_of sizeCon k.value ≡ w'.at = omega (arith, long, le) in
-              subst (λ (n : ℕ). IsCons w'.words.now 0 n k.value) i
-              (written-cons pool table w.words.now w'.words.now 0 k.value (stands le) (omega (arith, room, le))
+              subst (λ (n : ℕ). IsCons d 0 n k.value) i
+              (written-cons pool table w.words.now d 0 k.value (stands le) (omega (arith, room, le))
               (cons-weaker pool table k.value (set-kept k.value k.is)));
           near = λ le. omega (arith, ap length (stands le) ∙ length-sets w.words.now 0 (words (collect writeCon k.value)), room);
           good = set-kept k.value k.is;

@@ -1,15 +1,13 @@
 -- The calls past the check of 10, and whole.
-use Rattle.std.specs.Prelude.{Result, Err, ◌≡◌, List, ◌++◌, ℕ, ◌+◌, ◌/◌, ◌≤◌, length, get_or, replicate}
+use Rattle.std.specs.Prelude.{Result, ◌≡◌, List, ◌++◌, ℕ, ◌+◌, ◌/◌, ◌≤◌, length, get_or, replicate}
 use Rattle.std.proofs.Common.{sym, ap, subst, ◌∙◌}
 use Rattle.rules.specs.Base.{Got, got, refused, ◌>>=◌, collect}
 use Rattle.rules.specs.Trees.{Ty, Con, Binding, opens, opensCon, size}
 use Rattle.rules.specs.Calls.{typeGiven, setGiven, bindingsGiven, opensBinding, lent, resultAfter, replacedType, replacedSet, replaceTypeCall, replaceSetCall}
 use Rattle.rules.specs.Names.{table_of}
-use Rattle.rules.specs.Refusals.{number_of}
 use Rattle.rules.specs.Writing.{Rec, words}
 use Rattle.rules.specs.declared.Refusal.{Refusal}
 use Rattle.laws.specs.KnownNames.{every_append, ty-known}
-use Rattle.laws.specs.Lists.{clash}
 use Rattle.laws.specs.NameTable.{good-laid}
 use Rattle.names.specs.declared.tables.NameTable.{NameTable}
 use Rattle.records.specs.Found.{Words32}
@@ -22,10 +20,6 @@ use Rattle.queries.specs.Scans.{opensIn}
 use Rattle.queries.specs.ScanLaws.{type-opens}
 use Rattle.records_buffers.specs.Handed.{as_written, unwritten}
 use Rattle.records_buffers.specs.Told.{Made, handed}
-
--- a refusal makes nothing
-pub refused-made : {m : Got (List Rec)} {w : List ℕ} (k : Refusal) → m ≡ refused (number_of k) → Made m w (Err k)
-refused-made k e = record { answer = sym (rw e); front = λ rs i. clash (sym e ∙ i) }
 
 pub as-made : {m m' : Got (List Rec)} {w : List ℕ} {r : Result ℕ Refusal} → m ≡ m' → Made m' w r → Made m w r
 as-made {m} {m'} {w} {r} e h = subst (λ (x : Got (List Rec)). Made x w r) (sym e) h

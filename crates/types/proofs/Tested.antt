@@ -40,7 +40,8 @@ past_table (got u) (refused i) m g e = clash e
 
 -- A call over the table that was tested is the call, which asks for the table where `past` has it. Of `over_names` is known what it is over a table that is
 -- there, and where the table was refused.
-module _ {B : Type 0} (past : Table → Got (Unit {0}) → B) (pool table : List ℕ) (lent : lentTable pool table ≡ got tt) (over_names : Result NameTable Refusal → B)
+module _ {B : Type 0} (past : Table → Got (Unit {0}) → B) (pool table : List ℕ) (lent : lentTable pool table ≡ got tt)
+    (over_names : Result NameTable Refusal → B)
     (there : (n : NameTable) → over_names (Ok n) ≡ past (over n) (tableKept (over n)))
     (missing : (why : Refusal) → over_names (Err why) ≡ past (table_of pool table) (refused (number_of why))) where
   unkept : (k : ℕ) (kept_as : Got (Unit {0})) → refused k ≡ (lentTable pool table >> kept_as) → refused k ≡ kept_as

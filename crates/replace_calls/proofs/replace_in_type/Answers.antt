@@ -30,5 +30,9 @@ pub returns : goal.returns
 unfolding replacedType
 returns c = let enough : Long c.args.pool.now c.args.table.now c.args.res.now c.args.work.now =
     long _ _ _ _ c.lent.result c.lent.ensures (ap not c.if-not-lent.false) in
-    let t = tested typeGiven opens madeType _ _ enough.table-met c.args.words.now c.args.binds.now _ c.new-names.ensures.answer c.new-names.ensures.same in
-    c.hand_over.ensures _ c.make_type-made.ensures ∙ ap (λ (m : Got (List Rec)). handed m c.args.res.now c.make_type-made.new.work) t ∙ type-called _ _ _ _ _ _ c.make_type-made.new.work c.make_type-made.auto.work enough.met
+    let t = tested typeGiven opens madeType _ _ enough.table-met c.args.words.now c.args.binds.now _ c.new-names.ensures.answer
+    c.new-names.ensures.same in
+    let made = c.make_type-made in
+    c.hand_over.ensures _ made.ensures
+    ∙ ap (λ (m : Got (List Rec)). handed m c.args.res.now made.new.work) t
+    ∙ type-called _ _ _ _ _ _ made.new.work made.auto.work enough.met

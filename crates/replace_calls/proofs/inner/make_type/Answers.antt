@@ -10,22 +10,23 @@ use Rattle.records.specs.Found.{Words32}
 use Rattle.records.specs.Good.{goodTy}
 use Rattle.types.specs.Given.{type_in}
 use Rattle.types.proofs.Tested.{given, same_table}
+use Rattle.records_buffers.specs.Handed.{made-refused}
 use Rattle.replace_calls.specs.Made.{madeType}
 use Rattle.replace_calls.proofs.Checks.{second-too-long, first-stops, second-stops, asked-apart}
-use Rattle.replace_calls.proofs.Whole.{refused-made, as-made, type-opened, bindings-opened, type-both}
+use Rattle.replace_calls.proofs.Whole.{as-made, type-opened, bindings-opened, type-both}
 use Rattle.replace_calls.proofs.inner.make_type.Goals as goal
 
 pub returns-in_err-short : goal.returns-in_err-short
 unfolding replacedType
 returns-in_err-short c =
     let p = err_from_is_err_and c.from_residual.result c.from_residual.ensures.1 in
-    rw (p.1, p.2) (refused-made _ (second-too-long typeGiven opens madeType _ _ c.args.names _ c.in_err-short.ensures))
+    rw (p.1, p.2) (made-refused _ (second-too-long typeGiven opens madeType _ _ c.args.names _ c.in_err-short.ensures))
 
 pub returns-in_err-given : goal.returns-in_err-given
 unfolding replacedType
 returns-in_err-given c =
     let p = err_from_is_err_and c.from_residual-in_err-given.result c.from_residual-in_err-given.ensures.1 in
-    rw (p.1, p.2) (refused-made _ (first-stops typeGiven opens madeType _ _ c.args.names c.in_ok-short.ensures _ c.in_err-given.ensures.answer))
+    rw (p.1, p.2) (made-refused _ (first-stops typeGiven opens madeType _ _ c.args.names c.in_ok-short.ensures _ c.in_err-given.ensures.answer))
 
 pub returns-in_err-bindings : goal.returns-in_err-bindings
 unfolding replacedType
@@ -33,7 +34,7 @@ returns-in_err-bindings c =
     let g = c.in_ok-given.ensures in
     let p = err_from_is_err_and c.from_residual-in_err-bindings.result c.from_residual-in_err-bindings.ensures.1 in
     rw (p.1, p.2)
-    (refused-made _ (second-stops typeGiven opens madeType _ _ c.args.names _ g.same _ g.answer c.in_ok-short.ensures _ c.in_err-bindings.ensures.answer))
+    (made-refused _ (second-stops typeGiven opens madeType _ _ c.args.names _ g.same _ g.answer c.in_ok-short.ensures _ c.in_err-bindings.ensures.answer))
 
 pub check_apart-requires : goal.check_apart-requires
 check_apart-requires c =
@@ -56,7 +57,7 @@ returns-in_err-check_apart c =
     let q = bindings-opened n _ binds-word _ (given _ bindingsGiven c.args.names _ b.same _ b.answer).1 in
     let p = err_from_is_err_and c.from_residual-in_err-check_apart.result c.from_residual-in_err-check_apart.ensures.1 in
     rw (p.1, p.2)
-    (refused-made _ (asked-apart typeGiven opens madeType _ _ c.args.names _ b.same _ g _ b.answer _ _ o q _
+    (made-refused _ (asked-apart typeGiven opens madeType _ _ c.args.names _ b.same _ g _ b.answer _ _ o q _
     (c.in_err-check_apart.ensures (names_of (table_of n.pool.now n.table.now)))))
 
 pub type_into-requires : goal.type_into-requires

@@ -1,5 +1,5 @@
 -- `inner::set_into` meets its contract.
-use Rattle.std.proofs.Common.{◌≡◌, refl, rules, arith}
+use Rattle.std.proofs.Common.{refl, rules, arith}
 use Rattle.rules.specs.Base.{sum_of, max_of, collect}
 use Rattle.rules.specs.Trees.{sizeCon, depthCon}
 use Rattle.rules.specs.Writing.{writeCon}
@@ -25,25 +25,23 @@ replace_constraints-put-requires c = let b = c.args.bindings in set-good _ _ b.a
 pub set_fits-requires : goal.set_fits-requires
 set_fits-requires c =
     let b = c.args.bindings in
-    let back : c.front-1.given.0 ≡ c.replace_constraints-put.new.out.words.now = search rules in
     let f = c.fill.ensures _ _ b.all.trees.0 b.names.good (listed _ _ b.all b.fine) in
     let left = set-left _ _ b.all.trees.0 b.fine c.args.set.trees.0 c.requires.good f (_, search) c.replace_constraints-put.ensures in
     let k = came c.in-Ok.is left in (
       k.value,
-      rw back (set-stands _ _ b.all.trees.0 b.fine c.args.set.trees.0 c.requires.good refl (omega (arith, c.split_at_mut-front.ensures.front_len)) k),
+      set-stands _ _ b.all.trees.0 b.fine c.args.set.trees.0 c.requires.good refl c.split_at_mut-front.ensures.front_len (search rules) k,
     )
 
 pub returns-in-Ok : goal.returns-in-Ok
 returns-in-Ok c =
     let b = c.args.bindings in
-    let back : c.front-1.given.0 ≡ c.replace_constraints-put.new.out.words.now = search rules in
     let f = c.fill.ensures _ _ b.all.trees.0 b.names.good (listed _ _ b.all b.fine) in
     let left = set-left _ _ b.all.trees.0 b.fine c.args.set.trees.0 c.requires.good f (_, search) c.replace_constraints-put.ensures in
     let k = came c.in-Ok.is left in
-    let s = set-stands _ _ b.all.trees.0 b.fine c.args.set.trees.0 c.requires.good refl (omega (arith, c.split_at_mut-front.ensures.front_len)) k in
-    rw back (set-made _ _ c.args.set.trees.0 b.all.trees.0 _ _ (made-to (sum_of sizeCon) (max_of depthCon) (collect writeCon) set-length short-set _ _ refl
-    (omega (arith, c.split_at_mut-front.ensures.front_len)) _ _ _ k
-    (c.set_fits.ensures k.value (rw back s))))
+    set-made _ _ c.args.set.trees.0 b.all.trees.0 _ _ (made-to (sum_of sizeCon) (max_of depthCon) (collect writeCon) set-length short-set _ _ refl
+    (omega (arith, c.split_at_mut-front.ensures.front_len)) _ _ c.split_at_mut-front.result.1.now _ k (search rules)
+    (c.set_fits.ensures k.value
+    (set-stands _ _ b.all.trees.0 b.fine c.args.set.trees.0 c.requires.good refl (omega (arith, c.split_at_mut-front.ensures.front_len)) (search rules) k)))
 
 pub returns-in-Err : goal.returns-in-Err
 returns-in-Err c =

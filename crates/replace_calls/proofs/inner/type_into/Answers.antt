@@ -1,5 +1,5 @@
 -- `inner::type_into` meets its contract.
-use Rattle.std.proofs.Common.{◌≡◌, refl, rules, arith}
+use Rattle.std.proofs.Common.{refl, rules, arith}
 use Rattle.rules.specs.Trees.{size, depth}
 use Rattle.rules.specs.Writing.{writeTy}
 use Rattle.laws.specs.Size.{size-ty}
@@ -25,13 +25,13 @@ replace_type-put-requires c = let b = c.args.bindings in type-good _ _ b.all.tre
 pub returns-in-Ok : goal.returns-in-Ok
 returns-in-Ok c =
     let b = c.args.bindings in
-    let back : c.front-1.given.0 ≡ c.replace_type-put.new.out.words.now = search rules in
     let f = c.fill.ensures _ _ b.all.trees.0 b.names.good (listed _ _ b.all b.fine) in
     let left = type-left _ _ b.all.trees.0 b.fine c.args.t.tree.0 c.requires.good f (_, search) c.replace_type-put.ensures in
     let k = came c.in-Ok.is left in
-    let s = type-stands _ _ b.all.trees.0 b.fine c.args.t.tree.0 c.requires.good refl (omega (arith, c.split_at_mut-front.ensures.front_len)) k in
-    rw back (made-to size depth writeTy size-ty short-ty _ _ refl (omega (arith, c.split_at_mut-front.ensures.front_len)) _ _ _ k
-    (c.type_fits.ensures k.value (rw back s)))
+    made-to size depth writeTy size-ty short-ty _ _ refl (omega (arith, c.split_at_mut-front.ensures.front_len)) _ _
+    c.split_at_mut-front.result.1.now _ k (search rules)
+    (c.type_fits.ensures k.value
+    (type-stands _ _ b.all.trees.0 b.fine c.args.t.tree.0 c.requires.good refl (omega (arith, c.split_at_mut-front.ensures.front_len)) (search rules) k))
 
 pub returns-in-Err : goal.returns-in-Err
 returns-in-Err c =
