@@ -11,7 +11,7 @@ use Rattle.edition_certificate_file.specs.Files.{Kept, keptText, keptsText}
 use Rattle.edition_certificate_file.specs.Reading.{betweenRead, digestIn, insideRead, lineRead, linesRead, otherwise, restRead, textRead, certificateRead}
 
 -- every definition of reading under one name
-unfoldable reading : Type 0
+unfoldable pub reading : Type 0
 unfolding encode_with decode_pairs collect decimal keptText keptsText betweenRead digestIn insideRead lineRead linesRead otherwise restRead textRead
     certificateRead
 reading = Unit {0}

@@ -2,6 +2,8 @@
 //! what stands in it, line by line.
 #![tactic(auto)]
 
+pub mod theorems;
+
 ghost use Rattle.std.specs.Prelude.{◌≡◌, ◌++◌, IfOk, OnOk, [], map, option_map};
 ghost use Rattle.std.specs.List.{slice_split};
 ghost use Rattle.hex.specs.Hex.{encode_lower};
