@@ -146,7 +146,8 @@ module _ (pool table s : List ℕ) where
 -- ══ A concrete type ══
 
 -- what was given passed its tests
-module _ (pool table s bounds : List ℕ) (w : Words32 s) (sc : Scheme ℕ) (e : schemeGiven (table_of pool table) s ≡ got sc) {t : Ty ℕ} (is : sc ≡ concrete t) where
+module _ (pool table s bounds : List ℕ) (w : Words32 s) (sc : Scheme ℕ) (e : schemeGiven (table_of pool table) s ≡ got sc) {t : Ty ℕ}
+    (is : sc ≡ concrete t) where
   concrete-good : GoodScheme pool table s (concrete t)
   concrete-good = subst (GoodScheme pool table s) is (scheme-is pool table s w sc e)
 

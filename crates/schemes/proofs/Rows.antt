@@ -16,8 +16,8 @@ use Rattle.schemes.specs.Entry.{short}
 use Rattle.schemes.proofs.Called.{made-as}
 
 -- all of a call
-pub record IsRow {A B C : Type 0} (f : A → Got (Unit {0})) (g : A → B → Got C) (ws bounds numbers : List ℕ) (k : Got (Unit {0})) (m : Got A) (b : Got B) (n : Got (Unit {0})) (all : Got C)
-    : Type 0 where
+pub record IsRow {A B C : Type 0} (f : A → Got (Unit {0})) (g : A → B → Got C) (ws bounds numbers : List ℕ) (k : Got (Unit {0}))
+    (m : Got A) (b : Got B) (n : Got (Unit {0})) (all : Got C) : Type 0 where
   pub is : all ≡ (short ws bounds numbers >> (k >> (m >>= λ a. b >>= λ c. n >> (f a >> g a c))))
 
 -- ══ Lists that are short ══
