@@ -1,18 +1,19 @@
 -- The checks at entry, one after another.
-use Rattle.std.specs.Prelude.{Result, Ok, Err, IfOk, Option, Some, None, ◌≡◌, refl, Bool, true, false, not, List, [], ◌∷◌, ℕ, ◌*◌, ◌≤◌, ◌<◌, leb, length, take}
-use Rattle.std.proofs.Common.{sym, ap, ap₂, ◌∙◌, arith, le-leb, length-take-le}
+use Rattle.std.specs.Prelude.{Result, IfOk, ◌≡◌, refl, Bool, true, false, not, List, ◌∷◌, ℕ, ◌*◌, ◌≤◌, ◌<◌, leb, length, take}
+use Rattle.std.proofs.Common.{sym, ap, ◌∙◌, arith, le-leb, length-take-le}
 use Rattle.std.proofs.lemmas.Bool.{lt-leb}
 use borrow.Author.Tests.{leb-true}
 use Rattle.rules.specs.Base.{Got, got, refused, ◌>>=◌, ◌>>◌, need, all}
 use Rattle.rules.specs.Calls.{lentResult, shortLists, tableKept, setGiven, only}
 use Rattle.rules.specs.Names.{Table, table_of, tableGiven, lentTable}
-use Rattle.rules.specs.Refusals.{number_of, toldBy}
+use Rattle.rules.specs.Refusals.{toldBy}
 use Rattle.rules.specs.Trees.{Con}
 use Rattle.rules.specs.declared.Refusal.{Refusal}
 use Rattle.laws.specs.Checks.{need-passed, first-passed, next-passed}
-use Rattle.laws.specs.Lists.{clash, not-true, not-false}
+use Rattle.laws.specs.Lists.{bracket, clash, not-true, not-false}
 use Rattle.names.specs.Told.{unit_of}
 use Rattle.names.specs.declared.tables.NameTable.{NameTable}
+use Rattle.types.proofs.Tested.{kept, tested}
 use Rattle.types.specs.Given.{over_table, set_over}
 use Rattle.types.specs.Sets.{placed, alone, placed-alone}
 use Rattle.solve_add.specs.Entry.{one_over, passing, lentBuffer, oneGiven, checks}
@@ -31,16 +32,10 @@ two-of s at {x} {y} {xs} {ys} e i j = one-of s at (x ∷ y ∷ ys) e (ap (x ∷�
 
 -- ══ A table that was tested ══
 
-module _ (pool table : List ℕ) (l : lentTable pool table ≡ got tt) {A : Type 0} (f : Table → Got A) where
-  unkept : {k : ℕ} (a : Got (Unit {0})) → refused k ≡ (lentTable pool table >> a) → refused k ≡ (a >> f (table_of pool table))
-  unkept {k} (got u) e = clash (let z : ◌≡◌ {A = Got (Unit {0})} (refused k) (got u) = rw l at e in z)
-  unkept {k} (refused j) e = let z : ◌≡◌ {A = Got (Unit {0})} (refused k) (refused j) = rw l at e in cc
-
-  pub over-kept : (names : Result NameTable Refusal) → toldBy unit_of names ≡ tableGiven pool table
-      → IfOk names (λ n. (n.pool.now ≡ pool) × (n.table.now ≡ table)) → over_table names f ≡ (tableKept (table_of pool table) >> f (table_of pool table))
-  unfolding tableGiven tableKept
-  over-kept (Ok n) e i = ap₂ (λ (p q : List ℕ). f (table_of p q)) i.0 i.1 ∙ rw (sym i.0, sym i.1, n.good.good)
-  over-kept (Err why) e i = unkept (tableKept (table_of pool table)) e
+over-kept : {A : Type 0} (pool table : List ℕ) → lentTable pool table ≡ got tt → (f : Table → Got A) (names : Result NameTable Refusal)
+    → toldBy unit_of names ≡ tableGiven pool table → IfOk names (λ n. (n.pool.now ≡ pool) × (n.table.now ≡ table))
+    → over_table names f ≡ (tableKept (table_of pool table) >> f (table_of pool table))
+over-kept pool table l f = tested (λ t k. k >> f t) pool table l (λ names. over_table names f) (λ n. sym (rw (kept n))) (λ why. refl)
 
 -- ══ The checks ══
 
@@ -54,10 +49,6 @@ set-passes : {A : Type 0} {B : Type 0} {x : A} (a : Got (Unit {0})) (m : Got A) 
 set-passes (got u) (got x) n e = refl
 set-passes (got u) (refused k) n e = clash (sym e)
 set-passes (refused k) m n e = refl
-
-kept-first : {A B : Type 0} (a : Got (Unit {0})) (m : Got A) (f : A → Got B) → ((a >> m) >>= f) ≡ (a >> (m >>= f))
-kept-first (got u) m f = refl
-kept-first (refused k) m f = refl
 
 module _ (pool table buffer : List ℕ) where
   pub lent_met : (b : Bool) → need b 10 ≡ lentBuffer pool table buffer → not b ≡ false → lentBuffer pool table buffer ≡ got tt
@@ -89,29 +80,29 @@ module _ (pool table buffer : List ℕ) (count : ℕ) (con : List ℕ) where
       abbrev part : List ℕ
       part = take (count * 4) buffer
 
-      abbrev kept : Got (Unit {0})
-      kept = tableKept (table_of pool table)
+      abbrev asked : Got (Unit {0})
+      asked = tableKept (table_of pool table)
 
-      checks-are : checks pool table buffer count con ≡ (kept >> (passing (setGiven (table_of pool table) part) >> oneGiven pool table con))
+      checks-are : checks pool table buffer count con ≡ (asked >> (passing (setGiven (table_of pool table) part) >> oneGiven pool table con))
       unfolding checks shortLists all
       checks-are = rw (l, le-leb count 2048 h, le-leb (length con) 8192 k) refl
 
-      part-over : set_over names part ≡ (kept >> setGiven (table_of pool table) part)
+      part-over : set_over names part ≡ (asked >> setGiven (table_of pool table) part)
       unfolding shortLists all
       part-over =
           let short : leb (length part) 8192 ≡ true = le-leb (length part) 8192
           (omega (arith, length-take-le (count * 4) buffer (omega (arith, room pool table buffer l, h)), h)) in
           rw short (over-kept pool table (table-met pool table buffer l) (λ t. setGiven t part) names told same)
 
-      con-over : one_over names con ≡ (kept >> oneGiven pool table con)
+      con-over : one_over names con ≡ (asked >> oneGiven pool table con)
       unfolding shortLists all
       con-over =
           rw (le-leb (length con) 8192 k)
           (ap (λ (x : Got (List (Con ℕ))). x >>= only) (over-kept pool table (table-met pool table buffer l) (λ t. setGiven t con) names told same)
-          ∙ kept-first kept (setGiven (table_of pool table) con) only)
+          ∙ bracket asked (λ _. setGiven (table_of pool table) con) only)
 
       pub set-refused : {n : ℕ} → refused n ≡ set_over names part → refused n ≡ checks pool table buffer count con
-      set-refused e = set-stops kept (setGiven (table_of pool table) part) (oneGiven pool table con) (e ∙ part-over) ∙ sym checks-are
+      set-refused e = set-stops asked (setGiven (table_of pool table) part) (oneGiven pool table con) (e ∙ part-over) ∙ sym checks-are
 
       pub set-passed : {cs : List (Con ℕ)} → got cs ≡ set_over names part → one_over names con ≡ checks pool table buffer count con
-      set-passed e = con-over ∙ set-passes kept (setGiven (table_of pool table) part) (oneGiven pool table con) (e ∙ part-over) ∙ sym checks-are
+      set-passed e = con-over ∙ set-passes asked (setGiven (table_of pool table) part) (oneGiven pool table con) (e ∙ part-over) ∙ sym checks-are
