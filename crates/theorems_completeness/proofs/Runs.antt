@@ -4,7 +4,7 @@ use Rattle.std.proofs.Common.{◌∙◌, sym, inl, inr}
 use Rattle.std.specs.Prelude.{Bool, true, false, not, ◌⊎◌}
 use Rattle.std.proofs.Math.Option.{Option, none, some}
 use mathlib.Core.List.Memᴰ
-use mathlib.Core.List.{List, [], ◌∷◌, Memᴰ, cons≢nil}
+use mathlib.Core.List.{List, [], ◌∷◌, Memᴰ}
 use Prim.Native.Nat.{ℕ, zero, suc, ◌<◌}
 use native.Mathlib.Omega.{arith}
 use Rattle.rules.specs.Base.{Got, got, refused, bounded, only_if, ◌or_else◌, is_yes, is_none, keep}

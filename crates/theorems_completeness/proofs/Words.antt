@@ -1,38 +1,20 @@
 -- The theorems for the call on words: a set that is solved has passed the checks at entry.
 use Rattle.std.proofs.Math.Path.{◌≡◌, refl, ap, sym}
 use Rattle.std.proofs.Common.{◌∙◌, inl, arith}
-use Rattle.std.specs.Prelude.{Bool, false, ◌&&◌, List, ◌++◌, map, ℕ, ◌≤◌}
+use Rattle.std.specs.Prelude.{Bool, false, ◌&&◌, List, ℕ, ◌≤◌}
 use Rattle.std.proofs.Math.Bool.{true}
 use Rattle.std.proofs.Math.Logic.{inr}
 use borrow.Author.Tests.{leb-true}
 use Rattle.std.proofs.Math.Dec.{leb}
 use Rattle.std.proofs.Math.ListN.{length}
 use Rattle.rules.specs.Base.{Got, got, refused, ◌>>◌, need, bounded, all, collect, sum_of}
-use Rattle.rules.specs.Trees.{var, Names, Con, Binding, opensCon, sizeBinding, sizeCon}
+use Rattle.rules.specs.Trees.{Names, Con, Binding, opensCon, sizeBinding, sizeCon}
 use Rattle.rules.specs.Names.{Table, table_of, tableGood, numbersOf, is_held, lentTable}
 use Rattle.rules.specs.Contents.{unmixed}
 use Rattle.rules.specs.Solving.{Answer, accepted, remaining, stopped, solve}
 use Rattle.rules.specs.Choices.{dimensional, Choosing, wide, ChoosingWide}
 use Rattle.rules.specs.WellFormed.{goodCon}
-use Rattle.rules.specs.Writing.{words, writeBinding, writeBound}
-use Rattle.rules.specs.Calls.{
-  over,
-  lentResult,
-  lentWork,
-  lent,
-  shortLists,
-  tableKept,
-  setGiven,
-  apart,
-  resultAfter,
-  solved,
-  unsolved,
-  refusedAfter,
-  solvedOf,
-  solvedWords,
-  solvedSet,
-  solveCall,
-}
+use Rattle.rules.specs.Calls.{lentResult, lentWork, lent, shortLists, tableKept, setGiven, apart, resultAfter, solved, unsolved, refusedAfter, solvedOf, solvedWords, solvedSet, solveCall}
 use Rattle.laws.specs.Order.{Lawful, Tells}
 use Rattle.laws.specs.Checks.{need-passed}
 use Rattle.laws.specs.Given.{held-apart, lent-long, set-read}

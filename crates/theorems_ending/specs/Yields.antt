@@ -4,7 +4,7 @@ use Rattle.std.proofs.Common.{ap, arith, leb→le}
 use Rattle.rules.specs.Base.{Got, got, refused, ◌>>=◌, Limits, bounded, exact, within, allow, each}
 use Rattle.laws.specs.Value.{Gives, gives, together}
 use Rattle.laws.specs.Value as value
-use Rattle.laws.specs.Lists.{Every}
+use Rattle.laws.specs.Lists.{Every, same-number}
 
 pub record Yields {A : Type 0} (m : Got A) (P : A → Type 0) : Type 0 where
   pub value : Gives m P
@@ -14,13 +14,13 @@ pub yields : {A : Type 0} {P : A → Type 0} {a : A} → P a → Yields (got a) 
 yields p = record { value = gives p; numbered = λ n e. let z : ◌≡◌ {A = ℕ} 0 1 = cc in absurd (omega arith) }
 
 pub refuses : {A : Type 0} {P : A → Type 0} {n : ℕ} → 0 < n → Yields (refused n) P
-refuses {n} h = record { value = value.refuses; numbered = λ k e. let q : n ≡ k = cc in omega arith }
+refuses {n} h = record { value = value.refuses; numbered = λ k e. omega (arith, same-number e) }
 
 pub next : {A B : Type 0} {m : Got A} {f : A → Got B} {P : A → Type 0} {Q : B → Type 0} → Yields m P → ((a : A) → P a → Yields (f a) Q) → Yields (m >>= f) Q
 next {m} {f} {P} {Q} h s = record { value = value.next h.value (λ a p. (s a p).value); numbered = λ n e. go m refl n e }
   where
     go : (m' : Got _) → m ≡ m' → (n : ℕ) → (m' >>= f) ≡ refused n → 0 < n
-    go (refused k) i n e = let q : k ≡ n = cc in omega (arith, h.numbered k i)
+    go (refused k) i n e = omega (arith, same-number e, h.numbered k i)
     go (got a) i n e = (s a (h.value.holds a i)).numbered n e
 
 pub weaken : {A : Type 0} {m : Got A} {P Q : A → Type 0} → Yields m P → ((a : A) → P a → Q a) → Yields m Q

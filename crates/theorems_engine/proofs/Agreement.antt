@@ -37,7 +37,7 @@ use Rattle.rules.specs.Calls.{
 use Rattle.laws.specs.ByteOrder.{numbered-lawful, atom-lawful}
 use Rattle.laws.specs.Checks.{need-passed}
 use Rattle.laws.specs.Given.{held-apart, lent-long, set-read}
-use Rattle.laws.specs.Lists.{Every, and_left, and_right, bound-step, bracket, same_after, each-parts, got≢refused}
+use Rattle.laws.specs.Lists.{Every, and_left, and_right, bound-step, bracket, same_after, each-parts, got≢refused, same-number}
 use Rattle.rules.specs.Elimination.{
   scalarOf,
   fits,
@@ -94,11 +94,11 @@ scalars-refuse {N} (c ∷ cs) n e = first (scalarOf c) refl (scalars-refuse cs)
   where
     then : (p : Product N) (m : Got (List (Product N))) → each scalarOf cs ≡ m → scalarOf c ≡ got p → ((n : ℕ) → each scalarOf cs ≡ refused n → n ≡ 8) → n ≡ 8
     then p (got ps) i j r = let z : got (p ∷ ps) ≡ refused n = rw (j, i) at e in absurd (got≢refused z)
-    then p (refused k) i j r = let z : refused k ≡ refused n = rw (j, i) at e in let y : k ≡ n = cc in sym y ∙ r k i
+    then p (refused k) i j r = sym (same-number (rw (j, i) at e)) ∙ r k i
 
     first : (m : Got (Product N)) → scalarOf c ≡ m → ((n : ℕ) → each scalarOf cs ≡ refused n → n ≡ 8) → n ≡ 8
     first (got p) j r = then p (each scalarOf cs) refl j r
-    first (refused k) j r = let z : refused k ≡ refused n = rw j at e in let y : k ≡ n = cc in sym y ∙ scalar-refuses c k j
+    first (refused k) j r = sym (same-number (rw j at e)) ∙ scalar-refuses c k j
 
 pub products-good : {N : Type 0} (ν : Names N) (held : N → Bool) (ps : List (Product N)) → all (goodCon ν held 0) (map is_scalar ps) ≡ true
     → Every (λ p. goodProduct ν held 0 p ≡ true) ps
@@ -185,7 +185,7 @@ fitting-refuses ν cs n e = go (each scalarOf cs) refl
 
     go : (m : Got (List (Product ℕ))) → each scalarOf cs ≡ m → n ≡ 8
     go (got ps) i = counted ps (fits ν ps) (rw i at e)
-    go (refused k) i = let z : refused k ≡ refused n = rw i at e in let y : k ≡ n = cc in sym y ∙ scalars-refuse cs k i
+    go (refused k) i = sym (same-number (rw i at e)) ∙ scalars-refuse cs k i
 
 -- 10, 1, 4, 8 or 7
 abbrev Known : ℕ → Type 0
@@ -201,7 +201,7 @@ or-refuses n (some a) h = given
 
 refusal-only : (j n k : ℕ) (m : Got (Settled ℕ)) → Seven m → solvedOf (got (answered j m)) ≡ refusedAfter n k → n ≡ 7
 unfolding solvedOf answered
-refusal-only j n k (refused i) h e = let z : i ≡ n = cc in sym z ∙ h.only i refl
+refusal-only j n k (refused i) h e = (cc) ∙ h.only i refl
 refusal-only j n k (got (settled bs)) h e = let z : ◌≡◌ {A = ℕ} 0 1 = cc in absurd (omega arith)
 refusal-only j n k (got (unsettled cs)) h e = let z : ◌≡◌ {A = ℕ} 0 1 = cc in absurd (omega arith)
 
@@ -339,7 +339,7 @@ module _ (pool table set result work : List ℕ) where
   answer-refuses n e = go eliminating refl
     where
       go : (m : Got (Settled ℕ)) → eliminating ≡ m → Known n
-      go (refused j) i = let z : refusedWith j ≡ refusedWith n = rw i at e in let y : j ≡ n = cc in subst Known y (call-refuses.only j i)
+      go (refused j) i = let z : refusedWith j ≡ refusedWith n = rw i at e in subst Known (cc) (call-refuses.only j i)
       go (got (settled bs)) i = let z : allBound (sum_of sizeBinding bs) ≡ refusedWith n = rw i at e in let y : ◌≡◌ {A = ℕ} 0 1 = cc in absurd (omega arith)
       go (got (unsettled cs)) i = let z : someLeft (sum_of sizeCon cs) ≡ refusedWith n = rw i at e in let y : ◌≡◌ {A = ℕ} 0 1 = cc in absurd (omega arith)
 

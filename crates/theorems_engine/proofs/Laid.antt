@@ -16,7 +16,7 @@ use Rattle.rules.specs.Products.{put}
 use Rattle.rules.specs.WellFormed.{atomOf, goodProduct}
 use Rattle.rules.specs.Solving.{run, solve, enough}
 use Rattle.laws.specs.Lists.{Every, is-yes, is-no, and_left, and_right}
-use Rattle.laws.specs.Order.{Lawful, Tells, self}
+use Rattle.laws.specs.Order.{Lawful, Tells}
 use Rattle.laws.specs.Ranges.{nought-good, stored-good, stored-not-zero}
 use Rattle.laws.specs.Sorted.{Before, Sorted, sooner}
 use Rattle.laws.specs.SortedNames.{In, in-every, of-sort, sort-rises}
@@ -38,13 +38,13 @@ use Rattle.rules.specs.Elimination.{
   eliminated,
 }
 use Rattle.theorems_engine.proofs.Powers.{Good}
-use Rattle.theorems_engine.proofs.Rows.{Fit, Rising, factors-kept}
+use Rattle.theorems_engine.proofs.Rows.{Fit, Rising, factors-kept, unlike}
 use Rattle.theorems_engine.proofs.Runs.{answered, row-by-row}
 
 -- answers that are the same except for the rounds come from the same
 answered-same : {N : Type 0} (j k : ℕ) (a b : Got (Settled N)) → answered j a ≡ answered k b → a ≡ b
 unfolding answered
-answered-same j k (refused n) (refused m) e = let z : n ≡ m = cc in ap refused z
+answered-same j k (refused n) (refused m) e = ap refused (cc)
 answered-same j k (refused n) (got (settled cs)) e = let z : ◌≡◌ {A = ℕ} 0 1 = cc in absurd (omega arith)
 answered-same j k (refused n) (got (unsettled cs)) e = let z : ◌≡◌ {A = ℕ} 0 1 = cc in absurd (omega arith)
 answered-same j k (got (settled bs)) (refused m) e = let z : ◌≡◌ {A = ℕ} 0 1 = cc in absurd (omega arith)
@@ -64,27 +64,24 @@ module _ {N : Type 0} (ν : Names N) where
   power-there a b e p h = rw (is-no ((atomNames ν).same a b) h, powerIn) refl
 
 module _ {N : Type 0} (ν : Names N) (law : Lawful (orderAtom ν)) where
-  unlike : (a b : Atom N) → orderAtom ν a b ≡ Ordering.lt → ¬ (a ≡ b)
-  unlike a b h e = let i : orderAtom ν a b ≡ Ordering.eq = rw (← e) (self law a) in let z : ◌≡◌ {A = ℕ} 0 1 = cc in omega arith
-
   absent : (a : Atom N) (p : Product N) → Before ν a p → powerIn ν p a ≡ nought
   unfolding powerIn
   absent a [] h = refl
-  absent a (b ↑ e ∷ p) h = power-there ν a b e p (unlike a b h.0) ∙ absent a p h.1
+  absent a (b ↑ e ∷ p) h = power-there ν a b e p (unlike ν law a b h.0) ∙ absent a p h.1
 
   -- columns behind an atom don't see it
   behind : (b : Atom N) (e : Exp) (p : Product N) (cols : List (Atom N)) → Every (λ c. orderAtom ν b c ≡ Ordering.lt) cols
       → row_of ν cols (b ↑ e ∷ p) ≡ row_of ν cols p
   unfolding row_of
   behind b e p [] h = refl
-  behind b e p (c ∷ cols) h = ap₂ ◌∷◌ (power-there ν c b e p (λ i. unlike b c h.0 (sym i))) (behind b e p cols h.1)
+  behind b e p (c ∷ cols) h = ap₂ ◌∷◌ (power-there ν c b e p (λ i. unlike ν law b c h.0 (sym i))) (behind b e p cols h.1)
 
   abbrev Over : List (Atom N) → Product N → Type 0
   Over cols p = Every (λ f. In (atomOf f) cols) p
 
   further-in : (a : Atom N) (cols : List (Atom N)) (p : Product N) → Before ν a p → Over (a ∷ cols) p → Over cols p
   further-in a cols [] h k = tt
-  further-in a cols (b ↑ e ∷ p) h k = (⊎_elim (λ i. absurd (unlike a b h.0 (sym i))) (λ i. i) k.0, further-in a cols p h.1 k.1)
+  further-in a cols (b ↑ e ∷ p) h k = (⊎_elim (λ i. absurd (unlike ν law a b h.0 (sym i))) (λ i. i) k.0, further-in a cols p h.1 k.1)
 
   abbrev NotZero : Factor N → Type 0
   NotZero (a ↑ e) = isZero e ≡ false

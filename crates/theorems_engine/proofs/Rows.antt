@@ -21,7 +21,7 @@ use Rattle.laws.specs.Ranges.{good-lowest}
 use Rattle.laws.specs.Order.{Lawful, turned, self}
 use Rattle.laws.specs.Value.{together, its_own}
 use Rattle.laws.specs.Ranges.{nought-good, one-good, neg-good, sum-good, times-good, quotient-good}
-use Rattle.laws.specs.Sorted.{Before}
+use Rattle.laws.specs.Sorted.{Before, merge-nil}
 use Rattle.laws.specs.SortedNames.{Rises}
 use Rattle.laws.specs.RuleCases.{single-is}
 use Rattle.laws.specs.Occurs.{one-bound}
@@ -150,14 +150,9 @@ module _ {N : Type 0} (ν : Names N) where
       go true z i = rw (z, put) i
       go false z i = rw (z, put) (h.0, i)
 
-  merge-nil : (p : Product N) → merge ν bounded p [] ≡ got p
-  unfolding merge mergeOne
-  merge-nil [] = refl
-  merge-nil (a ↑ e ∷ p) = refl
-
   merge-first : (a : Atom N) (e : Exp) (p q : Product N) → Before ν a q → merge ν bounded (a ↑ e ∷ p) q ≡ (merge ν bounded p q >>= λ r. got (a ↑ e ∷ r))
   unfolding merge mergeOne
-  merge-first a e p [] h = rw (merge-nil p) refl
+  merge-first a e p [] h = rw (merge-nil ν bounded p) refl
   merge-first a e p (b ↑ d ∷ q) h = rw (h.0, mergeOne) refl
 
 module _ {N : Type 0} (ν : Names N) (law : Lawful (orderAtom ν)) where
@@ -248,7 +243,7 @@ module _ {N : Type 0} (ν : Names N) (law : Lawful (orderAtom ν)) where
   cleared [] r c a u h k z = absurd k
   cleared (b ∷ cols) [] c a u h k z = absurd h
   cleared (b ∷ cols) (e ∷ r) zero a u h k z =
-      rw (factors-kept b cols e r z, k, merge-both a e (neg e) (factors cols r) [], sum-neg e h.0, merge-nil ν (factors cols r)) refl
+      rw (factors-kept b cols e r z, k, merge-both a e (neg e) (factors cols r) [], sum-neg e h.0, merge-nil ν bounded (factors cols r)) refl
   cleared (b ∷ cols) (e ∷ r) (suc c) a u h k z =
       let o : orderAtom ν b a ≡ Ordering.lt = at_every (λ x. orderAtom ν b x ≡ Ordering.lt) cols c a u.0 k in
       let more = cleared cols r c a u.1 h.1 k z in
@@ -262,7 +257,8 @@ module _ {N : Type 0} (ν : Names N) (law : Lawful (orderAtom ν)) where
   unfolding divide multiply inverse
   divided cols r c a few u h k z = rw (cleared cols r c a u h k z) (within-few cols (set r c nought) _ few refl)
 
-  unlike : (a b : Atom N) → orderAtom ν a b ≡ Ordering.lt → a ≡ b → ⊥
+  -- an atom isn't one that stands behind it
+  pub unlike : (a b : Atom N) → orderAtom ν a b ≡ Ordering.lt → ¬ (a ≡ b)
   unlike a b h e = let i : orderAtom ν a b ≡ Ordering.eq = rw (← e) (self law a) in let z : ◌≡◌ {A = ℕ} 0 1 = cc in omega arith
 
   -- a variable x, put in as the product of a row

@@ -1,9 +1,9 @@
 -- What a line that passed the checks at entry is: its steps are formed, one for each four words, and its lent names are held and differ.
-use Rattle.std.specs.Prelude.{◌≡◌, refl, true, not, List, [], ◌∷◌, ℕ, suc, ◌*◌, eqb, length, drop}
+use Rattle.std.specs.Prelude.{◌≡◌, refl, true, not, List, [], ◌∷◌, ℕ, ◌*◌, eqb, length, drop}
 use Rattle.std.proofs.Common.{ap, ◌∙◌, sym, arith, eq-eqb}
 use Rattle.std.proofs.Math.Path.{subst}
 use Rattle.std.proofs.Math.Option.{Option, none, some}
-use Rattle.rules.specs.Base.{Got, got, need, orRefuse, and_then, any, all, each}
+use Rattle.rules.specs.Base.{got, need, orRefuse, and_then, any, all, each}
 use Rattle.rules.specs.Exponents.{frac, goodExp}
 use Rattle.rules.specs.Trees.{Ty}
 use Rattle.rules.specs.Contents.{closed}

@@ -7,37 +7,9 @@ use Rattle.std.proofs.Math.Option.{Option, none, some}
 use mathlib.Core.List.{List, [], ◌∷◌, ◌++◌, map, map-append}
 use Prim.Native.Nat.{ℕ, suc, ◌-◌, Ordering}
 use Rattle.std.proofs.Math.Dec.{leb}
-use Rattle.rules.specs.Base.{Got, got, refused, ◌>>=◌, need, orRefuse, bounded, collect, to_list, sum_of}
+use Rattle.rules.specs.Base.{Got, got, refused, ◌>>=◌, need, orRefuse, bounded, collect, sum_of}
 use Rattle.rules.specs.Exponents.{Exp, one, neg, isZero}
-use Rattle.rules.specs.Trees.{
-  Open,
-  var,
-  quant,
-  par,
-  free,
-  base,
-  Factor,
-  ◌↑◌,
-  Names,
-  Ty,
-  opened,
-  basic,
-  dim,
-  fn,
-  struct,
-  list,
-  Tys,
-  nil,
-  cons,
-  Fields,
-  noFields,
-  field,
-  Con,
-  Binding,
-  opensCon,
-  sizeCon,
-}
-use Rattle.rules.specs.Views.{name_of}
+use Rattle.rules.specs.Trees.{var, free, base, Factor, ◌↑◌, Names, Ty, opened, basic, dim, fn, struct, list, Tys, nil, cons, Fields, noFields, field, Con, Binding, opensCon, sizeCon}
 use Rattle.rules.specs.Contents.{unmixed}
 use Rattle.rules.specs.Products.{put}
 use Rattle.rules.specs.Replacing.{bindings}

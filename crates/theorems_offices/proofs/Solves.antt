@@ -1,19 +1,18 @@
 -- Solving: sets that read alike are answered alike.
 use Rattle.std.proofs.Math.Path.{◌≡◌, ap, ap₂}
-use Rattle.std.specs.Prelude.{refl, ℕ, ◌+◌}
-use Rattle.std.proofs.Common.{sym, ◌∙◌, arith, length-append}
-use mathlib.Core.List.{List, [], ◌∷◌, ◌++◌, map}
+use Rattle.std.specs.Prelude.{refl, ℕ}
+use Rattle.std.proofs.Common.{sym, ◌∙◌, arith}
+use mathlib.Core.List.{List, [], ◌∷◌, map}
 use Rattle.std.proofs.Math.ListN.{length, length-map}
 use Rattle.rules.specs.Base.{Got, got, bounded, collect, sum_of}
-use Rattle.rules.specs.Trees.{var, Binding, opensCon, sizeCon, sizeBinding}
+use Rattle.rules.specs.Trees.{opensCon, sizeCon, sizeBinding}
 use Rattle.rules.specs.Names.{Table, table_of}
 use Rattle.rules.specs.Solving.{Answer, accepted, remaining, stopped, solve}
-use Rattle.rules.specs.Writing.{writeBinding, writeBound}
 use Rattle.rules.specs.Calls.{resultAfter, solved, unsolved, refusedAfter, solvedOf, solvedWords, solvedSet, solveCall}
 use Rattle.rules.specs.Offices.{Name, byBytes, nameNo, mapCon, mapBinding, mapAnswer, ReadAlike, LentAlike, SolvedAlike, frontSolved}
 use Rattle.laws.specs.Answers.{records-length}
 use Rattle.laws.specs.NameTable.{Good}
-use Rattle.laws.specs.Size.{set-length, bindings-length}
+use Rattle.laws.specs.Size.{set-length}
 use Rattle.theorems_offices.proofs.Both.{Both, Pair, neither, both, pair, hence, alike, checked}
 use Rattle.theorems_offices.proofs.Sizes.{size-cons, size-bindings}
 use Rattle.theorems_offices.proofs.Solving.{solve-map}

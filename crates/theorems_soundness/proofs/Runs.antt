@@ -4,7 +4,7 @@ use Rattle.std.proofs.Math.Path.{ap}
 use Rattle.std.proofs.Common.{◌∙◌, sym, subst, inl, inr}
 use Rattle.std.proofs.Math.Option.{Option, none, some, get_or}
 use mathlib.Core.List.{List, [], ◌∷◌, ◌++◌, Memᴰ, cons≢nil}
-use Rattle.rules.specs.Base.{got, bounded, exact, all, keep, collect, to_list, is_none, is_yes}
+use Rattle.rules.specs.Base.{got, bounded, exact, all, collect, to_list, is_none, is_yes}
 use Rattle.rules.specs.Trees.{Open, var, quant, par, Names, Ty, opened, Con, equal, isDim, is_scalar, hasField, Binding, ◌≔◌, orderAtom, opens, opensCon}
 use Rattle.rules.specs.Views.{name_of, variable}
 use Rattle.rules.specs.Contents.{among, namesIn, unmixed}
