@@ -1,6 +1,6 @@
 -- Compaction over two tables: each set reads as before, and what reads alike is answered alike and keeps the same names.
 use Rattle.std.proofs.Math.Path.{◌≡◌, refl, sym, ap, subst}
-use Rattle.std.proofs.Common.{◌∙◌, arith}
+use Rattle.std.proofs.Common.{◌∙◌}
 use Rattle.std.specs.Prelude.{take, drop}
 use mathlib.Core.List.{List, [], ◌∷◌}
 use Prim.Native.Nat.{ℕ, zero, suc, ◌*◌}
@@ -10,7 +10,7 @@ use Rattle.rules.specs.Batches.{cutSets}
 use Rattle.rules.specs.Names.{Bytes, Table, table_of, names_of, tableGiven}
 use Rattle.rules.specs.Offices.{Word, readBack, ReadAlike}
 use Rattle.rules.specs.Compaction.{Compacted, keeps, renumbered, eachGiven, compactChecks, compactCall, compactIf, namesIt, CompactedAlike}
-use Rattle.laws.specs.Lists.{Every}
+use Rattle.laws.specs.Lists.{Every, clash}
 use Rattle.laws.specs.NameTable.{Good, given-good, good-distinct}
 use Rattle.laws.specs.ReadLists.{Words}
 use Rattle.theorems_offices.proofs.Both.{hence, equal-answers, same-both}
@@ -79,8 +79,7 @@ module _ (pool table sets lengths : List ℕ) where
   was-checked n e = go (compactChecks pool table sets lengths) refl
     where
       go : (m : Got (Unit {0})) → compactChecks pool table sets lengths ≡ m → compactChecks pool table sets lengths ≡ got tt
-      go (refused k) i = absurd (let y : refused k ≡ got n = sym (ap (λ (r : Compacted). r.answer) (refused-same k i)) ∙ e in
-          let z : ◌≡◌ {A = ℕ} 0 1 = cc in omega arith)
+      go (refused k) i = clash (sym (ap (λ (r : Compacted). r.answer) (refused-same k i)) ∙ e)
       go (got u) i = i
 
 -- ══ Two calls ══

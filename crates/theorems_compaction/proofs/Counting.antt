@@ -2,12 +2,12 @@
 use Rattle.std.proofs.Math.Path.{◌≡◌, refl, sym, ap, ap₂}
 use Rattle.std.proofs.Common.{◌∙◌, arith}
 use Rattle.std.specs.Prelude.{Bool, ◌&&◌, ◌||◌, length}
-use Rattle.std.proofs.Math.Bool.{true, false, not}
+use Rattle.std.proofs.Math.Bool.{true, false, not, and-false}
 use mathlib.Core.List.{List, [], ◌∷◌}
 use Prim.Native.Nat.{ℕ, suc}
 use Rattle.rules.specs.Base.{any, keep}
 use Rattle.rules.specs.Names.{Bytes, sameBytes, distinct}
-use Rattle.laws.specs.Lists.{and_left, and_right, and_both, not-true}
+use Rattle.laws.specs.Lists.{true≢false, and_left, and_right, and_both, not-true}
 use Rattle.laws.specs.NameTable.{same-yes, same-no, same-is}
 
 abbrev pub Among : Bytes → List Bytes → Bool
@@ -21,7 +21,7 @@ same-back m n = go (sameBytes m n) refl
   where
     go : (b : Bool) → sameBytes m n ≡ b → sameBytes m n ≡ sameBytes n m
     go true e = e ∙ sym (same-yes n m (sym (same-is m n e)))
-    go false e = e ∙ sym (same-no n m (λ q. let y : true ≡ false = sym (same-yes m n (sym q)) ∙ e in let z : ◌≡◌ {A = ℕ} 0 1 = cc in omega arith))
+    go false e = e ∙ sym (same-no n m (λ q. true≢false (sym (same-yes m n (sym q)) ∙ e)))
 
 -- ══ What a test keeps ══
 
@@ -35,11 +35,7 @@ among-keep q m (n ∷ ns) = go (q n) refl (sameBytes m n) refl (among-keep q m n
         → Among m (keep q (n ∷ ns)) ≡ (Among m (n ∷ ns) && q m)
     go true i true j h = let k : q m ≡ true = ap q (same-is m n j) ∙ i in rw (i, keep, any, j, k)
     go true i false j h = rw (i, keep, any, j) h
-    go false i true j h = let k : q m ≡ false = ap q (same-is m n j) ∙ i in rw (i, keep, any, j, h, k) (none-left (Among m ns))
-      where
-        none-left : (b : Bool) → (b && false) ≡ false
-        none-left true = refl
-        none-left false = refl
+    go false i true j h = let k : q m ≡ false = ap q (same-is m n j) ∙ i in rw (i, keep, any, j, h, k) (and-false (Among m ns))
     go false i false j h = rw (i, keep, any, j) h
 
 -- ══ Taking a name away ══
@@ -53,7 +49,7 @@ without-other m [] h = refl
 without-other m (n ∷ ns) h = go (sameBytes m n) refl h (without-other m ns)
   where
     go : (b : Bool) → sameBytes m n ≡ b → (sameBytes m n || Among m ns) ≡ false → (Among m ns ≡ false → without m ns ≡ ns) → without m (n ∷ ns) ≡ n ∷ ns
-    go true i h k = absurd (let y : true ≡ false = sym (rw i) ∙ h in let z : ◌≡◌ {A = ℕ} 0 1 = cc in omega arith)
+    go true i h k = absurd (true≢false (sym (rw i) ∙ h))
     go false i h k = rw (i, keep) (ap (λ (ms : List Bytes). n ∷ ms) (k (rw i at h)))
 
 distinct-without : (m : Bytes) (ns : List Bytes) → distinct ns ≡ true → distinct (without m ns) ≡ true
@@ -94,7 +90,7 @@ one-fewer m (n ∷ ns) d h = go (sameBytes m n) refl h (one-fewer m ns (rest-dis
 pub as-many : (ns ms : List Bytes) → distinct ns ≡ true → distinct ms ≡ true → ((m : Bytes) → Among m ns ≡ Among m ms) → length ns ≡ length ms
 unfolding any
 as-many [] [] d e h = refl
-as-many [] (m ∷ ms) d e h = absurd (let y : false ≡ true = h m ∙ ap (◌|| Among m ms) (same-same m) in let z : ◌≡◌ {A = ℕ} 0 1 = cc in omega arith)
+as-many [] (m ∷ ms) d e h = absurd (true≢false (sym (h m ∙ ap (◌|| Among m ms) (same-same m))))
 as-many (n ∷ ns) ms d e h =
     let there : Among n ms ≡ true = sym (h n) ∙ ap (◌|| Among n ns) (same-same n) in
     ap suc (as-many ns (without n ms) (rest-distinct n ns d) (distinct-without n ms e) (λ m. left m)) ∙ sym (one-fewer n ms e there)

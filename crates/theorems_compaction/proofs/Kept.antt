@@ -2,7 +2,7 @@
 use Rattle.std.proofs.Math.Path.{◌≡◌, refl, sym, ap, ap₂}
 use Rattle.std.proofs.Common.{◌∙◌, zero-add, add-zero, lt-ltb, ltb-true, eqb-true, eq-eqb}
 use Rattle.std.specs.Prelude.{Bool, ◌||◌, length, get_or}
-use Rattle.std.proofs.Math.Bool.{true, false, ◌&&◌}
+use Rattle.std.proofs.Math.Bool.{true, false, ◌&&◌, or-true}
 use mathlib.Core.List.{List, [], ◌∷◌}
 use Prim.Native.Nat.{ℕ, zero, suc, ◌+◌, ◌<◌}
 use native.Mathlib.Omega.{arith}
@@ -12,6 +12,7 @@ use Rattle.rules.specs.Compaction.{occurs, keeps, keptFrom}
 use Rattle.rules.specs.Names.{Bytes, table_of, names_of, sameBytes, is_held}
 use Rattle.rules.specs.Offices.{Name, named, stray, Word, number, name, nameNo, namesOne, wordIf, readBack}
 use Rattle.rules.specs.Writing.{kindIn}
+use Rattle.laws.specs.Lists.{true≢false}
 use Rattle.laws.specs.NameTable.{Good, good-laid, good-distinct, length-names, held-is, distinct-same, same-yes, same-no}
 use Rattle.theorems_compaction.proofs.Counting.{Among, among-keep}
 
@@ -60,10 +61,8 @@ module _ {pool table : List ℕ} (g : Good pool table) where
       go true k true e = rw (k, e) (same-yes (get_or names i []) (get_or names a []) (ap (λ (j : ℕ). get_or names j []) (sym (eqb-true a i e))))
       go true k false e = rw (k, e) (same-no (get_or names i []) (get_or names a []) (λ q.
           let d : i ≡ a = distinct-same names (good-distinct g) i a h (few a k) q in
-          let y : true ≡ false = sym (eq-eqb a i (sym d)) ∙ e in
-          let z : ◌≡◌ {A = ℕ} 0 1 = cc in omega arith))
-      go false k true e = absurd (let y : true ≡ false = sym (held i h) ∙ ap (is_held (table_of pool table)) (sym (eqb-true a i e)) ∙ k in
-          let z : ◌≡◌ {A = ℕ} 0 1 = cc in omega arith)
+          true≢false (sym (eq-eqb a i (sym d)) ∙ e)))
+      go false k true e = absurd (true≢false (sym (held i h) ∙ ap (is_held (table_of pool table)) (sym (eqb-true a i e)) ∙ k))
       go false k false e = rw (k, e)
 
   -- a held number occurs where its name stands
@@ -84,11 +83,7 @@ module _ {pool table : List ℕ} (g : Good pool table) where
   unfolding any
   among-get m [] a h e = absurd (omega arith)
   among-get m (n ∷ ns) zero h e = ap (◌|| Among m ns) e
-  among-get m (n ∷ ns) (suc a) h e = let k = among-get m ns a (omega arith) e in ap (sameBytes m n ||◌) k ∙ or-right (sameBytes m n)
-    where
-      or-right : (b : Bool) → (b || true) ≡ true
-      or-right true = refl
-      or-right false = refl
+  among-get m (n ∷ ns) (suc a) h e = let k = among-get m ns a (omega arith) e in ap (sameBytes m n ||◌) k ∙ or-true (sameBytes m n)
 
   stands-named : (m : Bytes) (a : ℕ) → isIt m (nameNo (table_of pool table) a) ≡ true → Among m names ≡ true
   unfolding nameNo
@@ -96,14 +91,14 @@ module _ {pool table : List ℕ} (g : Good pool table) where
     where
       go : (b : Bool) → is_held (table_of pool table) a ≡ b → Among m names ≡ true
       go true k = among-get m names a (few a k) (rw k at e)
-      go false k = absurd (let y : false ≡ true = rw k at e in let z : ◌≡◌ {A = ℕ} 0 1 = cc in omega arith)
+      go false k = absurd (true≢false (sym (rw k at e)))
 
   pub stands-among : (m : Bytes) (ws : List ℕ) → stands (readBack (table_of pool table) ws) m ≡ true → Among m names ≡ true
   unfolding readBack any
-  stands-among m [] e = absurd (let z : ◌≡◌ {A = ℕ} 0 1 = cc in omega arith)
-  stands-among m (w ∷ []) e = absurd (let z : ◌≡◌ {A = ℕ} 0 1 = cc in omega arith)
-  stands-among m (w ∷ a ∷ []) e = absurd (let z : ◌≡◌ {A = ℕ} 0 1 = cc in omega arith)
-  stands-among m (w ∷ a ∷ b ∷ []) e = absurd (let z : ◌≡◌ {A = ℕ} 0 1 = cc in omega arith)
+  stands-among m [] e = absurd (true≢false (sym e))
+  stands-among m (w ∷ []) e = absurd (true≢false (sym e))
+  stands-among m (w ∷ a ∷ []) e = absurd (true≢false (sym e))
+  stands-among m (w ∷ a ∷ b ∷ []) e = absurd (true≢false (sym e))
   stands-among m (w ∷ a ∷ b ∷ c ∷ ws) e = go (namesOne (kindIn w) b) e (stands-among m ws)
     where
       either : (x : Bool) → (x ≡ true → Among m names ≡ true) → (x || stands (readBack (table_of pool table) ws) m) ≡ true

@@ -15,7 +15,7 @@ use Rattle.laws.specs.Lists.{got≢refused, All, in_head}
 use Rattle.laws.specs.Exact.{OfLimits, Below, times_below, multiply-below, divide-below, raise-below, sized-below}
 use Rattle.laws.specs.ExactProducts.{multiply-exact, divide-exact, raise-exact}
 use Rattle.laws.specs.GoodProducts.{goodAtom}
-use Rattle.laws.specs.Refusing.{Refuses, given as fine, onward}
+use Rattle.laws.specs.Refusing.{Refuses, given as fine, refusing, onward}
 use Rattle.laws.specs.Occurs.{one-bound}
 
 -- with 7 or 8
@@ -72,7 +72,7 @@ unfolding quotient times
 quotient-limited a b = go (inverted b)
   where
     go : (i : Option Exp) → Limited (timesInverse bounded a i)
-    go none = record { only = λ n e. let q : 7 ≡ n = cc in inl (sym q) }
+    go none = refusing (inl refl)
     go (some c) = below (times_below a c) refl
 
 module _ {N : Type 0} (ν : Names N) (law : Lawful (orderAtom ν)) (held : N → Bool) (tells : Tells (λ a. goodAtom ν held 0 a ≡ true) (orderAtom ν)) where

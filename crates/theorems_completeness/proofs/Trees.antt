@@ -79,7 +79,7 @@ module _ {N : Type 0} (ν : Names N) (held : N → Bool) (w : Bool) (ord : Lawfu
   only-limits n k e = go answers
     where
       go : Outcome ν held w ord apart start (solve ν bounded cs) → OfLimits n
-      go (limits m j h i) = let z : m ≡ n = cc in rw (sym z) h
+      go (limits m j h i) = subst OfLimits (cc) h
       go (refuted rs j i f) = let z : ◌≡◌ {A = ℕ} 0 1 = cc in absurd (omega arith)
       go (settled s ns j i h t f) = let z : ◌≡◌ {A = ℕ} 0 1 = cc in absurd (omega arith)
 

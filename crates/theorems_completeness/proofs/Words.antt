@@ -1,5 +1,5 @@
 -- The theorems for the call on words: a set that is solved has passed the checks at entry.
-use Rattle.std.proofs.Math.Path.{◌≡◌, refl, ap, sym}
+use Rattle.std.proofs.Math.Path.{◌≡◌, refl, ap, sym, subst}
 use Rattle.std.proofs.Common.{◌∙◌, inl, arith}
 use Rattle.std.specs.Prelude.{Bool, false, ◌&&◌, List, ℕ, ◌≤◌}
 use Rattle.std.proofs.Math.Bool.{true}
@@ -14,11 +14,27 @@ use Rattle.rules.specs.Contents.{unmixed}
 use Rattle.rules.specs.Solving.{Answer, accepted, remaining, stopped, solve}
 use Rattle.rules.specs.Choices.{dimensional, Choosing, wide, ChoosingWide}
 use Rattle.rules.specs.WellFormed.{goodCon}
-use Rattle.rules.specs.Calls.{lentResult, lentWork, lent, shortLists, tableKept, setGiven, apart, resultAfter, solved, unsolved, refusedAfter, solvedOf, solvedWords, solvedSet, solveCall}
+use Rattle.rules.specs.Calls.{
+  lentResult,
+  lentWork,
+  lent,
+  shortLists,
+  tableKept,
+  setGiven,
+  apart,
+  resultAfter,
+  solved,
+  unsolved,
+  refusedAfter,
+  solvedOf,
+  solvedWords,
+  solvedSet,
+  solveCall,
+}
 use Rattle.laws.specs.Order.{Lawful, Tells}
 use Rattle.laws.specs.Checks.{need-passed}
 use Rattle.laws.specs.Given.{held-apart, lent-long, set-read}
-use Rattle.laws.specs.Refusing.{Refuses, given as fine, onward}
+use Rattle.laws.specs.Refusing.{Refuses, given as fine, refusing, onward}
 use Rattle.laws.specs.Exact.{OfLimits}
 use Rattle.laws.specs.ByteOrder.{numbered-lawful}
 use Rattle.laws.specs.Lists.{got≢refused, and_left, bound-step}
@@ -39,7 +55,7 @@ use Rattle.theorems_completeness.proofs.Trees.{
 
 need-refuses : (P : ℕ → Type 0) (b : Bool) (n : ℕ) → P n → Refuses P (need b n)
 need-refuses P true n h = fine
-need-refuses P false n h = record { only = λ m e. let z : n ≡ m = cc in rw (sym z) h }
+need-refuses P false n h = refusing h
 
 -- what the checks at entry say of a set that is solved
 pub record Checked (pool table set : List ℕ) (cs : List (Con ℕ)) : Type 0 where
@@ -135,10 +151,10 @@ module _ (pool table set : List ℕ) (cs : List (Con ℕ)) (read : setGiven (tab
       refusals n k e = go call refl e
         where
           go : (m : Got (Answer ℕ)) → call ≡ m → solvedOf m ≡ refusedAfter n k → Excepted n
-          go (refused j) i h = let z : j ≡ n = cc in rw (sym z) (call-refuses.only j i)
+          go (refused j) i h = subst Excepted (cc) (call-refuses.only j i)
           go (got (accepted bs ns j)) i h = let z : ◌≡◌ {A = ℕ} 0 1 = cc in absurd (omega arith)
           go (got (remaining rs j)) i h = let z : ◌≡◌ {A = ℕ} 0 1 = cc in absurd (omega arith)
-          go (got (stopped m j)) i h = let z : m ≡ n = cc in rw (sym z) (stopped-excepted m j i)
+          go (got (stopped m j)) i h = subst Excepted (cc) (stopped-excepted m j i)
 
       pub five : ((n k : ℕ) → (solveCall pool table set result work).answer ≡ refusedAfter n k → Excepted n → ⊥)
           → Unsolved (solveCall pool table set result work).answer ⇔ (C → ⊥)

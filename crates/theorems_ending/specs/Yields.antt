@@ -4,14 +4,14 @@ use Rattle.std.proofs.Common.{ap, arith, leb→le}
 use Rattle.rules.specs.Base.{Got, got, refused, ◌>>=◌, Limits, bounded, exact, within, allow, each}
 use Rattle.laws.specs.Value.{Gives, gives, together}
 use Rattle.laws.specs.Value as value
-use Rattle.laws.specs.Lists.{Every, same-number}
+use Rattle.laws.specs.Lists.{Every, got≢refused, same-number}
 
 pub record Yields {A : Type 0} (m : Got A) (P : A → Type 0) : Type 0 where
   pub value : Gives m P
   pub numbered : (n : ℕ) → m ≡ refused n → 0 < n
 
 pub yields : {A : Type 0} {P : A → Type 0} {a : A} → P a → Yields (got a) P
-yields p = record { value = gives p; numbered = λ n e. let z : ◌≡◌ {A = ℕ} 0 1 = cc in absurd (omega arith) }
+yields p = record { value = gives p; numbered = λ n e. absurd (got≢refused e) }
 
 pub refuses : {A : Type 0} {P : A → Type 0} {n : ℕ} → 0 < n → Yields (refused n) P
 refuses {n} h = record { value = value.refuses; numbered = λ k e. omega (arith, same-number e) }

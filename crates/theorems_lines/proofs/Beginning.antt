@@ -2,7 +2,6 @@
 use Rattle.std.specs.Prelude.{◌≡◌, refl, Bool, true, false}
 use mathlib.Core.List.{List, [], ◌∷◌, ◌++◌, map, Memᴰ}
 use Prim.Native.Nat.{Ordering}
-use Rattle.rules.specs.Base.{collect}
 use Rattle.rules.specs.Exponents.{Exp, one, neg, isZero}
 use Rattle.rules.specs.Trees.{var, free, Names, Ty, basic, dim, boolean, Con, equal, isDim, opens}
 use Rattle.rules.specs.Products.{put}
@@ -12,7 +11,7 @@ use Rattle.theorems_soundness.specs.Claims.{Ordered}
 use Rattle.rules.specs.Steps.{Two, adds, subtracts, multiplies, divides, compares, LineStep, constant, reference, raises, joins, chooses, takes}
 use Rattle.rules.specs.Lines.{its, issuedByTwo, issued, constraints}
 use Rattle.theorems_lines.proofs.Stacks.{Ready}
-use Rattle.theorems_lines.proofs.Shut.{Never, Shut}
+use Rattle.theorems_lines.proofs.Shut.{Never, Shut, scalar-shut}
 use Rattle.theorems_lines.proofs.Flow.{Side, shut, pair, Term, side, half, two, dimension, equality, Differs, Flow, end, beside, define}
 
 module _ {N : Type 0} where
@@ -21,10 +20,6 @@ module _ {N : Type 0} where
 
   abbrev pub seconds : List (N × N) → List N
   seconds ps = map (λ (p : N × N). p.1) ps
-
-scalar-shut : {N : Type 0} → Shut {N = N} (dim [])
-unfolding opens collect
-scalar-shut = all_nil _
 
 boolean-shut : {N : Type 0} → Shut {N = N} (basic boolean)
 unfolding opens

@@ -9,7 +9,31 @@ use Prim.Native.Nat.{ℕ, suc, ◌-◌, Ordering}
 use Rattle.std.proofs.Math.Dec.{leb}
 use Rattle.rules.specs.Base.{Got, got, refused, ◌>>=◌, need, orRefuse, bounded, collect, sum_of}
 use Rattle.rules.specs.Exponents.{Exp, one, neg, isZero}
-use Rattle.rules.specs.Trees.{var, free, base, Factor, ◌↑◌, Names, Ty, opened, basic, dim, fn, struct, list, Tys, nil, cons, Fields, noFields, field, Con, Binding, opensCon, sizeCon}
+use Rattle.rules.specs.Trees.{
+  var,
+  free,
+  base,
+  Factor,
+  ◌↑◌,
+  Names,
+  Ty,
+  opened,
+  basic,
+  dim,
+  fn,
+  struct,
+  list,
+  Tys,
+  nil,
+  cons,
+  Fields,
+  noFields,
+  field,
+  Con,
+  Binding,
+  opensCon,
+  sizeCon,
+}
 use Rattle.rules.specs.Contents.{unmixed}
 use Rattle.rules.specs.Products.{put}
 use Rattle.rules.specs.Replacing.{bindings}

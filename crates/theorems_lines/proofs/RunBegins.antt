@@ -5,7 +5,7 @@ use Rattle.std.specs.Prelude.{Bool, true, false, ℕ}
 use Rattle.std.proofs.Math.Option.{Option, none, some}
 use mathlib.Core.List.{List, [], ◌∷◌, ◌++◌, map, Memᴰ}
 use Prim.Native.Nat.{Ordering}
-use Rattle.rules.specs.Base.{exact, collect}
+use Rattle.rules.specs.Base.{exact}
 use Rattle.rules.specs.Exponents.{Exp, one, neg, isZero}
 use Rattle.rules.specs.Trees.{var, Atom, free, ◌↑◌, Product, Names, Ty, basic, dim, boolean, Con, equal, isDim, orderAtom, opens}
 use Rattle.rules.specs.Views.{productOf}
@@ -62,7 +62,7 @@ use Rattle.rules.specs.Running.{
   does,
   run_from,
 }
-use Rattle.theorems_lines.proofs.Shut.{Never, Shut}
+use Rattle.theorems_lines.proofs.Shut.{Never, Shut, scalar-shut}
 use Rattle.theorems_lines.proofs.Stacks.{Ready}
 use Rattle.theorems_lines.proofs.Formed.{FormedStep, Apart, pushed, popped}
 use Rattle.theorems_lines.proofs.RunFlow.{RSide, shut, pair, RTerm, side, half, two, dimension, equality, Other, RFlow, end, beside, define}
@@ -138,10 +138,6 @@ module _ {N : Type 0} (ν : Names N) where
       let a = ran-step (asks (means ν c (basic boolean)) Fault.notBoolean) _ u h in
       let b = ran-step (asks (means ν s t) Fault.unequal) _ u a.2 in
       (same-means ν c (basic boolean) (asked _ Fault.notBoolean a.0 a.1), same-means ν s t (asked _ Fault.unequal b.0 b.1), cc b.2)
-
-scalar-shut : {N : Type 0} → Shut {N = N} (dim [])
-unfolding opens collect
-scalar-shut = all_nil _
 
 -- ══ Step after step ══
 

@@ -3,7 +3,7 @@ use Rattle.std.specs.Prelude.{◌≡◌, ◌⊎◌}
 use Rattle.std.proofs.Math.Option.{none}
 use Rattle.std.proofs.Common.{inl, inr}
 use mathlib.Core.List.Memᴰ
-use mathlib.Core.List.{List, ◌∷◌, ◌++◌, Memᴰ}
+use mathlib.Core.List.{List, [], ◌∷◌, ◌++◌, Memᴰ}
 use Rattle.rules.specs.Base.{got, bounded, Limits, collect}
 use Rattle.rules.specs.Exponents.{Exp}
 use Rattle.rules.specs.Trees.{
@@ -68,6 +68,10 @@ module _ {N : Type 0} where
 
   abbrev pub Shut : Ty N → Type 0
   Shut t = All Never (opens t)
+
+  pub scalar-shut : Shut (dim [])
+  unfolding opens collect
+  scalar-shut = all_nil _
 
   abbrev pub ShutCon : Con N → Type 0
   ShutCon c = All Never (opensCon c)

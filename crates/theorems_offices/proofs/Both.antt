@@ -1,9 +1,10 @@
 -- Two answers that may be refusals: the same refusal, or values that are alike.
 use Rattle.std.specs.Prelude.{◌≡◌, refl, Bool, ℕ}
-use Rattle.std.proofs.Common.{ap, ap₂, sym, ◌∙◌, arith}
+use Rattle.std.proofs.Common.{ap, ap₂, sym, ◌∙◌}
 use Rattle.std.proofs.Math.Option.{Option, none, some}
 use Rattle.rules.specs.Base.{Got, got, refused, ◌>>=◌, ◌>>◌, need, orRefuse}
 use Rattle.rules.specs.Offices.{mapGot, mapOption}
+use Rattle.laws.specs.Lists.{got≢refused, clash, same-number}
 use Rattle.theorems_offices.proofs.Over.{Over}
 
 pub record Both {A A' B : Type 0} (g : A → B) (g' : A' → B) (m : Got A) (m' : Got A') : Type 0 where
@@ -19,19 +20,10 @@ module _ {A A' B : Type 0} {g : A → B} {g' : A' → B} where
     where
       inside : {x y : B} → got x ≡ got y → x ≡ y
       inside e = cc
-  pair (got a) (refused n) b = absurd (unlike b.is)
+  pair (got a) (refused n) b = absurd (got≢refused b.is)
+  pair (refused n) (got a') b = clash b.is
+  pair (refused n) (refused n') b = alike n n' (same-number b.is)
     where
-      unlike : {x : B} → got x ≡ refused n → ⊥
-      unlike e = let z : ◌≡◌ {A = ℕ} 0 1 = cc in omega arith
-  pair (refused n) (got a') b = absurd (unlike b.is)
-    where
-      unlike : {x : B} → refused n ≡ got x → ⊥
-      unlike e = let z : ◌≡◌ {A = ℕ} 0 1 = cc in omega arith
-  pair (refused n) (refused n') b = alike n n' (inside b.is)
-    where
-      inside : {x y : ℕ} → ◌≡◌ {A = Got B} (refused x) (refused y) → x ≡ y
-      inside e = cc
-
       alike : (n n' : ℕ) → n ≡ n' → Pair g g' (refused n) (refused n')
       alike n n' e = rw (← e) (neither n)
 

@@ -14,6 +14,7 @@ use Rattle.rules.specs.Choices.{isSide, wide}
 use Rattle.rules.specs.Calls.{over, resultAfter}
 use Rattle.rules.specs.Conflicts.{Line, linesFrom, wideOf, remains, conflicting, leaveOut, conflictIn, conflictOf, placesOf, manyOf, conflictCall}
 use Rattle.rules.specs.Offices.{Name, Keeps, byBytes, nameNo, mapTy, mapCon, mapAnswer, mapOption, LentAlike, ConflictAlike}
+use Rattle.laws.specs.Lists.{true≢false}
 use Rattle.laws.specs.NameTable.{Good}
 use Rattle.theorems_offices.proofs.Both.{Both, Pair, neither, both, pair, hence, through, checked}
 use Rattle.theorems_offices.proofs.Contents.{keep-map}
@@ -109,8 +110,8 @@ module _ {N M : Type 0} (ν : Names N) (μ : Names M) (f : N → M) (keeps : Kee
       ])
       single by true true e = gives (sym (map-append (mapLine f) kept ls))
       single by false false e = rw (length-map ls (mapLine f)) (halves by)
-      single by true false e = absurd (let z : ◌≡◌ {A = ℕ} 0 1 = cc in omega arith)
-      single by false true e = absurd (let z : ◌≡◌ {A = ℕ} 0 1 = cc in omega arith)
+      single by true false e = absurd (true≢false (sym e))
+      single by false true e = absurd (true≢false e)
 
       half : Leaves d → (r : Bool) → Over (map (mapLine f)) (elim r [
         | true ↦ got kept

@@ -7,7 +7,7 @@ use Rattle.rules.specs.Base.{Got, got, refused, all}
 use Rattle.rules.specs.Names.{Bytes, Table, names_of, is_held, enterChecks, enterChecked, enterNew, Entered, enter}
 use Rattle.rules.specs.Offices.{Name, named, nameNo, mapGot, Office, sameOffice, Entering, Shared, tableIn, entered, afterAll, namesBy, answered}
 use Rattle.rules.specs.Offices.{answersTo, answerFor, noThree, hadRoom}
-use Rattle.laws.specs.Lists.{and_left, and_right}
+use Rattle.laws.specs.Lists.{true≢false, and_left, and_right}
 use Rattle.laws.specs.NameTable.{Good, good-laid, good-given, length-names, held-is, new_is}
 use Rattle.laws.specs.Entering.{Enters, Case, stopped, known, full, new, enter-case, names-with, good-with, pass-checks, Passed}
 
@@ -94,8 +94,7 @@ entry-passed s g n t h = go (enter-case s.pool s.table n)
     go : Case s.pool s.table n → Stands (tableIn (entered s n)) (answered s n) (got (named n))
     go (stopped k z e) = absurd (let y : ◌≡◌ {A = ℕ} 0 1 = cc (pass-checks s.pool s.table n passed) in omega arith)
     go (known i a e) = rw (entered, e) (number i n (omega (arith, a.held, length-names (good-laid g))) a.name)
-    go (full q a m e) = absurd (let y : true ≡ false = sym h ∙ ap (λ (r : Entered). noThree (mapGot (λ a. a.0) r.answer)) e
-        in let z : ◌≡◌ {A = ℕ} 0 1 = cc in omega arith)
+    go (full q a m e) = absurd (true≢false (sym h ∙ ap (λ (r : Entered). noThree (mapGot (λ a. a.0) r.answer)) e))
     go (new en e) = rw (entered, e, new-number s.pool s.table n en)
         (number (get_or s.table 0 0) n (rw (names-with en, length-append (names_of (tableIn s)) (n ∷ [])) (omega (arith, length-names (good-laid g))))
         (ap (λ (ns : List Bytes). get_or ns (get_or s.table 0 0) []) (names-with en)

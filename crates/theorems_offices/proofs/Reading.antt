@@ -65,6 +65,7 @@ use Rattle.rules.specs.Offices.{
   mapBinding,
   mapOption,
 }
+use Rattle.laws.specs.Lists.{some≢none}
 
 -- a record with a name in place of its number
 abbrev pub Seen : Type 0
@@ -151,14 +152,8 @@ module _ (t t' : Table) where
 
     pub cases : (x x' : Option (A × List Rec)) → mapOption told x ≡ mapOption told' x' → Cases x x'
     cases none none e = neither
-    cases none (some v) e = absurd (clash e)
-      where
-        clash : {v : B × List Seen} → none ≡ some v → ⊥
-        clash e = let z : ◌≡◌ {A = ℕ} 0 1 = cc in omega arith
-    cases (some v) none e = absurd (clash e)
-      where
-        clash : {v : B × List Seen} → some v ≡ none → ⊥
-        clash e = let z : ◌≡◌ {A = ℕ} 0 1 = cc in omega arith
+    cases none (some v) e = absurd (some≢none (sym e))
+    cases (some v) none e = absurd (some≢none e)
     cases (some v) (some v') e = both v v' (ap (λ r. r.0) (inside e)) (ap (λ r. r.1) (inside e))
       where
         inside : {a b : B × List Seen} → some a ≡ some b → a ≡ b

@@ -12,6 +12,7 @@ use Rattle.rules.specs.Writing.{writeCon}
 use Rattle.rules.specs.Calls.{lent, tableKept, workAfter}
 use Rattle.rules.specs.TextReading.{Sheet, sheetRead, wasRead, notRead, handed, fromEntry, sheetGiven, readTextCall}
 use Rattle.rules.specs.Offices.{nameNo, mapCon, LentAlike, meetsThree, TextReadAlike}
+use Rattle.laws.specs.Lists.{got≢refused, clash, same-number}
 use Rattle.laws.specs.NameTable.{Good}
 use Rattle.laws.specs.Size.{set-length}
 use Rattle.theorems_offices.proofs.Both.{two-checks}
@@ -65,12 +66,9 @@ module _ {pool table pool' table' : List ℕ} (good : Good pool table) (good' : 
           → TextReadAlike (handed pool table result w (fromEntry m (sheetRead pool table text)))
           (handed pool' table' result' w' (fromEntry m' (sheetRead pool' table' text)))
       go (got u) (got v) e k k' = outcome result result' w w' (sheets-alike good good' text) k k'
-      go (got u) (refused n) e k k' = absurd (let z : ◌≡◌ {A = ℕ} 0 1 = cc in omega arith)
-      go (refused n) (got v) e k k' = absurd (let z : ◌≡◌ {A = ℕ} 0 1 = cc in omega arith)
-      go (refused n) (refused n') e k k' = record { answer = same-refusal (inside e); records = nothing (table_of pool table) (table_of pool' table') }
+      go (got u) (refused n) e k k' = absurd (got≢refused e)
+      go (refused n) (got v) e k k' = clash e
+      go (refused n) (refused n') e k k' = record { answer = same-refusal (same-number e); records = nothing (table_of pool table) (table_of pool' table') }
         where
-          inside : {x y : ℕ} → ◌≡◌ {A = Got (Unit {0})} (refused x) (refused y) → x ≡ y
-          inside e = cc
-
           same-refusal : {x y : ℕ} → x ≡ y → notRead x 0 0 ≡ notRead y 0 0
           same-refusal e = rw e

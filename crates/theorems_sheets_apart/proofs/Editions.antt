@@ -1,14 +1,15 @@
 -- A file of an edition: over which table it was read, and that the edition's last table has the names that it left.
 use Rattle.std.specs.Prelude.{◌≡◌, List, [], ◌∷◌, ℕ, zero, suc, Result, Ok, Err}
-use Rattle.std.proofs.Math.Path.{refl, subst}
+use Rattle.std.proofs.Math.Path.{refl, sym, subst}
 use Rattle.std.proofs.Common.{arith}
-use Rattle.std.proofs.Math.Option.{none, some}
+use Rattle.std.proofs.Math.Option.{some}
 use Rattle.rules.specs.Trees.{Con}
 use Rattle.rules.specs.Names.{Bytes, Table, table_of}
 use Rattle.rules.specs.TextReading.{Sofar, Sheet, sheet, refusedIn, sheetRead}
 use Rattle.rules.specs.Reports.{Page, page_of, page_without, Edition, onPage, readOn, namesAfter, editionGiven}
 use Rattle.rules.specs.Apart.{File, fileAt, pageAt}
 use Rattle.rules.specs.declared.Unseen.{Unseen}
+use Rattle.laws.specs.Lists.{some≢none}
 use Rattle.laws.specs.NameTable.{Good}
 use Rattle.theorems_offices.proofs.Steps.{Grows, grows-same, grows-on}
 use Rattle.theorems_offices.proofs.Readings.{SheetsOut, three-at, three-at', refused-at, both-read, sheets-alike}
@@ -100,14 +101,11 @@ module _ (pool table : List ℕ) (g : Good pool table) (name : Bytes) (fs : List
       over-sheet (refusedIn n l c) e = i pool table g
   later-stands (Err u) k h i = behind (page_without name u) (editionGiven pool table fs) k h (i pool table g)
 
-none-there : {f : File} → none ≡ some f → ⊥
-none-there e = let z : ◌≡◌ {A = ℕ} 0 1 = cc in omega arith
-
 same-file : {f h : File} → some h ≡ some f → h ≡ f
 same-file e = cc
 
 pub stands : (files : List File) (pool table : List ℕ) → Good pool table → (k : ℕ) (f : File) → fileAt files k ≡ some f
     → Stands (editionGiven pool table files) k f
-stands [] pool table g k f e = absurd (none-there e)
+stands [] pool table g k f e = absurd (some≢none (sym e))
 stands (h ∷ fs) pool table g zero f e = subst (λ (x : File). Stands (editionGiven pool table (h ∷ fs)) 0 x) (same-file e) (first-stands pool table g h.0 fs h.1)
 stands (h ∷ fs) pool table g (suc k) f e = later-stands pool table g h.0 fs h.1 k f (λ p t i. stands fs p t i k f e)
