@@ -39,7 +39,7 @@ use Rattle.replace.specs.Substitutions.{ALook, one-look}
 use Rattle.replace.specs.Well.{Lent}
 use Rattle.replace.specs.Written.{written-cons}
 use Rattle.types.specs.declared.writer.Writer.{Writer}
-use Rattle.types.specs.Sets.{Cons, HoldsCons, IsCons, con-some, one-set}
+use Rattle.types.specs.Sets.{Cons, IsCons, con-some, one-set}
 use Rattle.types.specs.Runs.{HoldsEach}
 use Rattle.types.specs.Written.{last}
 
