@@ -2,7 +2,7 @@
 use Rattle.std.specs.Prelude.{Result, Ok, Err, IfOk, Option, Some, None, ◌≡◌, Bool, true, ◌&&◌, ℕ, ◌/◌, ◌%◌, ◌≤◌, ◌<◌, eqb}
 use Rattle.std.specs.Prelude.{List, [], ◌∷◌, ◌++◌, map, length, replicate}
 use Rattle.std.proofs.Math.Path.{refl, sym}
-use Rattle.std.proofs.Common.{ap, ap₂, ◌∙◌}
+use Rattle.std.proofs.Common.{ap, ◌∙◌}
 use Rattle.std.proofs.Math.Bool.{false}
 use borrow.Author.Tests.{leb-true, lt-leb, le-leb, eq-eqb, ne_eqb}
 use Rattle.std.proofs.Math.Dec.{leb}
@@ -24,7 +24,7 @@ use Rattle.rules.specs.Calls.{
   judgeCall,
 }
 use Rattle.rules.specs.Judging.{judge}
-use Rattle.rules.specs.Names.{table_of, numbersOf, tableGiven, lentTable}
+use Rattle.rules.specs.Names.{Table, table_of, numbersOf, tableGiven, lentTable}
 use Rattle.rules.specs.Reading.{readBound}
 use Rattle.rules.specs.Refusals.{number_of, told, toldBy}
 use Rattle.rules.specs.Trees.{Open, Con, opensCon}
@@ -42,7 +42,8 @@ use Rattle.records.specs.Schemes.{bound-reader}
 use Rattle.queries.specs.declared.name_set.NameSet.{NameSet}
 use Rattle.queries.specs.Marks.{Has}
 use Rattle.types.specs.Given.{over_table, set_over}
-use Rattle.types.proofs.Tested.{kept, as-refused}
+use Rattle.types.proofs.Tested as tables
+use Rattle.types.proofs.Tested.{over, kept, past_table, as-refused}
 use Rattle.judge.specs.Told.{judgedAs}
 
 -- 10
@@ -66,13 +67,15 @@ abbrev pub judged_over : Result NameTable Refusal → List ℕ → List Entry �
 judged_over (Ok n) set es types bounds = judgedSet (table_of n.pool.now n.table.now) set es types bounds
 judged_over (Err why) set es types bounds = (shortLists (set ∷ types ∷ bounds ∷ []) >> shortNumbers es) >> refused (number_of why)
 
+-- what is judged past that
+abbrev judgedPast : Table → List Entry → List ℕ → List ℕ → List (Con ℕ) → Got Bool
+judgedPast t es types bounds cs =
+    entriesGiven t es types >>= λ bs. risingBounds t bounds >>= λ ns. apart t (collect opensCon cs ++ collect opensBinding bs)
+    >> judge (numbersOf t) bounded bs ns cs
+
 module _ (pool table : List ℕ) where
-  -- what is judged past that
   abbrev pub judgedRest : List Entry → List ℕ → List ℕ → List (Con ℕ) → Got Bool
-  judgedRest es types bounds cs =
-      entriesGiven (table_of pool table) es types >>= λ bs. risingBounds (table_of pool table) bounds
-      >>= λ ns. apart (table_of pool table) (collect opensCon cs ++ collect opensBinding bs)
-      >> judge (numbersOf (table_of pool table)) bounded bs ns cs
+  judgedRest es types bounds cs = judgedPast (table_of pool table) es types bounds cs
 
   pub record Entered (set types : List ℕ) (cs : List (Con ℕ)) : Type 0 where
     pub good : Good pool table
@@ -105,20 +108,20 @@ module _ (set types bounds : List ℕ) (es : List Entry) where
   last-long false = refl
 
   module _ (names : Result NameTable Refusal) where
-    over : shorts ≡ refused 8 → refused 8 ≡ entered names set es types bounds
+    over-long : shorts ≡ refused 8 → refused 8 ≡ entered names set es types bounds
     unfolding shorts
-    over e = sym (rw e)
+    over-long e = sym (rw e)
 
     pub types_long : 8192 < length types → refused 8 ≡ entered names set es types bounds
-    types_long h = over (tests _ _ _ _ refl (lt-leb (length types) 8192 h) refl refl
+    types_long h = over-long (tests _ _ _ _ refl (lt-leb (length types) 8192 h) refl refl
         ∙ second-long (leb (length set) 8192) (leb (length bounds) 8192) (leb (length es) 2048))
 
     pub bounds-long : 8192 < length bounds → refused 8 ≡ entered names set es types bounds
-    bounds-long h = over (tests _ _ _ _ refl refl (lt-leb (length bounds) 8192 h) refl
+    bounds-long h = over-long (tests _ _ _ _ refl refl (lt-leb (length bounds) 8192 h) refl
         ∙ third-long (leb (length set) 8192) (leb (length types) 8192) (leb (length es) 2048))
 
     pub many-long : 2048 < length es → refused 8 ≡ entered names set es types bounds
-    many-long h = over (tests _ _ _ _ refl refl refl (lt-leb (length es) 2048 h)
+    many-long h = over-long (tests _ _ _ _ refl refl refl (lt-leb (length es) 2048 h)
         ∙ last-long (leb (length set) 8192 && (leb (length types) 8192 && (leb (length bounds) 8192 && true))))
 
     one_way : {A : Type 0} (a : Bool) (M : Got A) → (need (a && true) 8 >> M) ≡ ((need (a && (true && (true && true))) 8 >> need true 8) >> M)
@@ -132,13 +135,6 @@ module _ (set types bounds : List ℕ) (es : List Entry) where
         (one_way (leb (length set) 8192) (over_table names (λ t. setGiven t set)))
 
   -- ══ Met ══
-
-  unmet : {A B : Type 0} (S K : Got (Unit {0})) (M : Got A) (f : A → Got B) (n : ℕ) → K ≡ got tt → refused n ≡ (S >> M)
-      → (S >>= λ _. K >>= λ _. M >>= f) ≡ refused n
-  unmet (refused i) K M f n h e = cc
-  unmet (got x) (refused i) M f n h e = clash h
-  unmet (got x) (got y) (refused i) f n h e = cc
-  unmet (got x) (got y) (got a) f n h e = clash e
 
   short-all : (a b c d : Bool) → (need (a && (b && (c && true))) 8 >> need d 8) ≡ got tt → (a ≡ true) × ((b ≡ true) × (d ≡ true))
   short-all true true true true e = (refl, (refl, refl))
@@ -171,29 +167,21 @@ module _ (set types bounds : List ℕ) (es : List Entry) where
   pub kept_out : (names : Result NameTable Refusal) (k : ℕ) → refused k ≡ entered names set es types bounds → refused k ≡ judged_over names set es types bounds
   unfolding judgedSet shorts
   kept_out (Ok n) k e =
-      let t = table_of n.pool.now n.table.now in
-      sym (unmet shorts (tableKept t) (setGiven t set) (judgedRest n.pool.now n.table.now es types bounds) k (kept n) e)
+      let t = over n in
+      ap (λ m. m >>= judgedPast t es types bounds) e
+      ∙ sym (past_table shorts (tableKept t) (setGiven t set) (judgedPast t es types bounds) (kept n))
   kept_out (Err why) k e = sym (as-refused shorts k (number_of why) e)
 
   -- over the table that was tested it is what the call asks
   module _ (pool table : List ℕ) (l : lentTable pool table ≡ got tt) where
-    abbrev past : Got (Unit {0}) → Got Bool
-    past k = shorts >>= λ _. k >>= λ _. setGiven (table_of pool table) set >>= judgedRest pool table es types bounds
-
-    refused-table : (k : ℕ) (a : Got (Unit {0})) → tableKept (table_of pool table) ≡ a → refused k ≡ (lentTable pool table >> a)
-        → (shorts >> refused k) ≡ judgedSet (table_of pool table) set es types bounds
-    unfolding judgedSet shorts
-    refused-table k (got u) q e = clash (let z : refused k ≡ got u = rw l at e in z)
-    refused-table k (refused j) q e =
-        let z : refused k ≡ refused j = rw l at e in
-        ap past (z ∙ sym q)
+    abbrev past : Table → Got (Unit {0}) → Got Bool
+    past t k = shorts >> (k >> (setGiven t set >>= judgedPast t es types bounds))
 
     pub tested : (names : Result NameTable Refusal) → toldBy unit_of names ≡ tableGiven pool table
         → IfOk names (λ n. (n.pool.now ≡ pool) × (n.table.now ≡ table))
         → judged_over names set es types bounds ≡ judgedSet (table_of pool table) set es types bounds
-    unfolding tableGiven tableKept shorts
-    tested (Ok n) e i = ap₂ (λ (p q : List ℕ). judgedSet (table_of p q) set es types bounds) i.0 i.1
-    tested (Err why) e i = refused-table (number_of why) (tableKept (table_of pool table)) refl e
+    unfolding judgedSet shorts
+    tested = tables.tested past pool table l (λ names. judged_over names set es types bounds) (λ n. refl) (λ why. refl)
 
 module _ (pool table : List ℕ) where
   -- ══ Bounds ══

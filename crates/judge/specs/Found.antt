@@ -5,12 +5,12 @@ use Rattle.std.proofs.Common.{sym, ap, subst, ◌∙◌, arith, add-zero}
 use Rattle.std.proofs.Math.Option.{Option}
 use Rattle.std.proofs.Math.Seq.{slice}
 use Rattle.std.proofs.lemmas.List.{length-map, drop-take}
-use Rattle.rules.specs.Base.{Got, got, refused, all, bounded, sum_of}
+use Rattle.rules.specs.Base.{Got, got, refused, all, bounded}
 use Rattle.rules.specs.Judging.{judge, failing}
 use Rattle.rules.specs.Refusals.{toldBy, toldOption}
 use Rattle.rules.specs.Replacing.{bindings}
 use Rattle.rules.specs.Solving.{Answer, accepted, remaining, stopped}
-use Rattle.rules.specs.Trees.{var, Names, Con, Binding, sizeBinding}
+use Rattle.rules.specs.Trees.{var, Names, Con, Binding}
 use Rattle.rules.specs.WellFormed.{goodOpen, goodBinding}
 use Rattle.rules.specs.declared.Refusal.{Refusal}
 use Rattle.rules.specs.Writing.{Rec, rec, words, word_of, writeBound}
@@ -18,8 +18,7 @@ use Rattle.laws.specs.Lists.{Every, every-all, is_all}
 use Rattle.laws.specs.Size.{words-length}
 use Rattle.records.specs.Good.{Chain, GoodBound, numbers, holding}
 use Rattle.records.specs.Held.{shown}
-use Rattle.records.specs.ByView.{binding-in}
-use Rattle.records.specs.Holds.{HoldsBinding, HoldsBounds}
+use Rattle.records.specs.Holds.{HoldsBounds}
 use Rattle.records.specs.Places.{seen, seen-in, words-from}
 use Rattle.records.specs.Views.{recs, from}
 use Rattle.records.specs.declared.Open.TheVariants as opens
@@ -78,6 +77,11 @@ bounds-in : (s : List ℕ) (ns : List ℕ) (at : ℕ) → at ≤ length s / 4 �
 unfolding HoldsBounds
 bounds-in s [] at le h = omega arith
 bounds-in s (n ∷ ns) at le h = let i = seen-in s at h.0.0 tt in omega (arith, bounds-in s ns (at + 1) (omega (arith, i)) h.1)
+
+from-back : (rs : List Rec) → from (words rs) 0 ≡ rs
+unfolding from recs words
+from-back [] = refl
+from-back (rec k a b c ∷ rs) = ap (rec k a b c ∷◌) (from-back rs)
 
 chain : (pool table s ns : List ℕ) (at : ℕ) → from s at ≡ boundRecs ns → Every (λ n. holding pool table n ≡ true) ns
     → Chain (GoodBound pool table 0 s) (at + length ns) (map (λ n. var n) ns) at
