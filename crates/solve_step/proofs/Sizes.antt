@@ -1,7 +1,7 @@
 -- How many records the parts of a constraint have.
 use Rattle.std.specs.Prelude.{◌≡◌, ℕ, suc, ◌+◌, length}
 use Rattle.std.proofs.Common.{ap}
-use Rattle.rules.specs.Trees.{Product, Ty, fn, struct, list, Tys, Fields, Con, equal, is_scalar, hasField, size, sizeTys, sizeFields, sizeCon}
+use Rattle.rules.specs.Trees.{Product, Ty, Con, equal, is_scalar, hasField, size, sizeCon}
 
 pub equal-size : (l r : Ty ℕ) (c : Con ℕ) → equal l r ≡ c → suc (size l + size r) ≡ sizeCon c
 unfolding sizeCon
