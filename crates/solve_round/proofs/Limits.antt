@@ -1,19 +1,19 @@
 -- The limits of a state, and the soundness of lists that are put together.
 use Rattle.std.specs.Prelude.{◌≡◌, refl, Bool, true, false, List, [], ◌∷◌, ◌++◌, ℕ, ◌+◌, ◌≤◌, ◌<◌, leb, max, Ok, Err, Some}
-use Rattle.std.proofs.Common.{arith, ap, sym, subst, ◌∙◌, le-leb, leb-true}
+use Rattle.std.proofs.Common.{arith, ap, sym, ◌∙◌, le-leb, leb-true}
 use Rattle.std.proofs.Math.Decide.{dec_le}
 use Rattle.std.proofs.Math.Bool.{and-eq-true_iff}
 use Rattle.std.proofs.Math.Option.{some}
 use Rattle.rules.specs.Base.{got, refused, all, sum_of, max_of}
 use Rattle.rules.specs.Rounds.{State, limited, sizeState, depthState}
-use Rattle.rules.specs.Trees.{Ty, opened, basic, dim, fn, struct, list, Con, depth, depthCon, depthBinding, sizeCon, sizeBinding}
+use Rattle.rules.specs.Trees.{Ty, opened, basic, dim, fn, struct, list, Con, Binding, depth, depthCon, depthBinding, sizeCon, sizeBinding}
 use Rattle.rules.specs.declared.Refusal.TheVariants.{TooLarge}
 use Rattle.laws.specs.Lists.{true≢false}
 use Rattle.laws.specs.Nesting.{max_both}
 use Rattle.laws.specs.Sized.{sized-kept, sized-long, sized-deep}
 use Rattle.records.specs.Good.{goodBinding, goodCon}
-use Rattle.types.specs.Binds.{Binds, one-binds}
-use Rattle.types.specs.Sets.{Cons, one-set}
+use Rattle.types.specs.Binds.{Binds, IsBinds, one-binds}
+use Rattle.types.specs.Sets.{Cons, IsCons, one-set}
 use Rattle.solve_round.specs.declared.Ends.{Ends}
 use Rattle.solve_round.specs.States.{SoundSet}
 use Rattle.solve_round.specs.Parts.{keeps, leaf, Limited, Made}
@@ -99,31 +99,31 @@ module _ (pool table : List ℕ) (w : List ℕ) (ends : Ends) (st : State ℕ) (
     limit-kept h = (kept st (omega (arith, few, m.many)) h, refl)
 
     -- whichever constraints and bindings stand there, they are the state's
-    pub cons-good : (x : Cons w 0 ends.constraints) → all (goodCon pool table 0) x.0 ≡ true
-    cons-good x = subst (λ (y : Cons w 0 ends.constraints). all (goodCon pool table 0) y.0 ≡ true)
-        (one-set w 0 ends.constraints (st.cons, m.cons few) x) m.good_cons
+    cons-are : (cs : List (Con ℕ)) → IsCons w 0 ends.constraints cs → st.cons ≡ cs
+    cons-are cs h = ap (λ (x : Cons w 0 ends.constraints). x.0) (one-set w 0 ends.constraints (st.cons, m.cons few) (cs, h))
 
-    pub binds-good : (x : Binds w ends.constraints ends.bindings) → all (goodBinding pool table 0) x.0 ≡ true
-    binds-good x = subst (λ (y : Binds w ends.constraints ends.bindings). all (goodBinding pool table 0) y.0 ≡ true)
-        (one-binds w ends.constraints ends.bindings (st.binds, m.binds few) x) m.good_binds
+    binds-are : (bs : List (Binding ℕ)) → IsBinds w ends.constraints ends.bindings bs → st.binds ≡ bs
+    binds-are bs h = ap (λ (x : Binds w ends.constraints ends.bindings). x.0)
+        (one-binds w ends.constraints ends.bindings (st.binds, m.binds few) (bs, h))
 
-    cons-deep : (x : Cons w 0 ends.constraints) → max_of depthCon x.0 ≡ max_of depthCon st.cons
-    cons-deep x = ap (λ (y : Cons w 0 ends.constraints). max_of depthCon y.0) (one-set w 0 ends.constraints x (st.cons, m.cons few))
+    pub cons-good : (cs : List (Con ℕ)) → IsCons w 0 ends.constraints cs → all (goodCon pool table 0) cs ≡ true
+    cons-good cs h = sym (ap (all (goodCon pool table 0)) (cons-are cs h)) ∙ m.good_cons
 
-    binds-deep : (x : Binds w ends.constraints ends.bindings) → max_of depthBinding x.0 ≡ max_of depthBinding st.binds
-    binds-deep x = ap (λ (y : Binds w ends.constraints ends.bindings). max_of depthBinding y.0)
-        (one-binds w ends.constraints ends.bindings x (st.binds, m.binds few))
+    pub binds-good : (bs : List (Binding ℕ)) → IsBinds w ends.constraints ends.bindings bs → all (goodBinding pool table 0) bs ≡ true
+    binds-good bs h = sym (ap (all (goodBinding pool table 0)) (binds-are bs h)) ∙ m.good_binds
 
-    pub limit-cons : (x : Cons w 0 ends.constraints) {b : Bool} → b ≡ leb (max_of depthCon x.0) 64 → b ≡ false → Limited ends st (Err TooLarge) (keeps st)
-    limit-cons x e i = (deep st (omega (arith, over (max_of depthCon x.0) e i, cons-deep x, depth-is st)), refl)
-
-    pub limit-binds : (x : Binds w ends.constraints ends.bindings) {b : Bool} → b ≡ leb (max_of depthBinding x.0) 64 → b ≡ false
+    pub limit-cons : {cs : List (Con ℕ)} {b : Bool} → b ≡ leb (max_of depthCon cs) 64 → b ≡ false → IsCons w 0 ends.constraints cs
         → Limited ends st (Err TooLarge) (keeps st)
-    limit-binds x e i = (deep st (omega (arith, over (max_of depthBinding x.0) e i, binds-deep x, depth-is st)), refl)
+    limit-cons {cs} e i h = (deep st (omega (arith, over (max_of depthCon cs) e i, ap (max_of depthCon) (cons-are cs h), depth-is st)), refl)
 
-    pub limit-flat : (x : Cons w 0 ends.constraints) (y : Binds w ends.constraints ends.bindings) {b c : Bool} → b ≡ leb (max_of depthCon x.0) 64 → b ≡ true
-        → c ≡ leb (max_of depthBinding y.0) 64 → c ≡ true → Limited ends st (Ok (Some ends)) (keeps st)
-    limit-flat x y e i f j =
-        let p = leb-true (max_of depthCon x.0) 64 (sym e ∙ i) in
-        let q = leb-true (max_of depthBinding y.0) 64 (sym f ∙ j) in
-        limit-kept (omega (arith, p, q, cons-deep x, binds-deep y, depth-is st))
+    pub limit-binds : {bs : List (Binding ℕ)} {b : Bool} → b ≡ leb (max_of depthBinding bs) 64 → b ≡ false → IsBinds w ends.constraints ends.bindings bs
+        → Limited ends st (Err TooLarge) (keeps st)
+    limit-binds {bs} e i h = (deep st (omega (arith, over (max_of depthBinding bs) e i, ap (max_of depthBinding) (binds-are bs h), depth-is st)), refl)
+
+    pub limit-flat : {cs : List (Con ℕ)} {bs : List (Binding ℕ)} {b c : Bool} → b ≡ leb (max_of depthCon cs) 64 → b ≡ true
+        → c ≡ leb (max_of depthBinding bs) 64 → c ≡ true → IsCons w 0 ends.constraints cs → IsBinds w ends.constraints ends.bindings bs
+        → Limited ends st (Ok (Some ends)) (keeps st)
+    limit-flat {cs} {bs} e i f j h k =
+        let p = leb-true (max_of depthCon cs) 64 (sym e ∙ i) in
+        let q = leb-true (max_of depthBinding bs) 64 (sym f ∙ j) in
+        limit-kept (omega (arith, p, q, ap (max_of depthCon) (cons-are cs h), ap (max_of depthBinding) (binds-are bs k), depth-is st))

@@ -1,13 +1,13 @@
 -- What a step wrote, by the answer of the code that tried the rules.
 use Rattle.std.proofs.Math.Path.{◌≡◌, refl}
-use Rattle.std.proofs.Common.{sym, ap, subst, ◌∙◌, append-nil, inl, inr}
+use Rattle.std.proofs.Common.{sym, ap, ap₂, subst, ◌∙◌, append-nil, inl, inr}
 use Rattle.std.proofs.lemmas.List.Edits.{sets}
-use Rattle.std.specs.Prelude.{true, List, [], ◌∷◌, ℕ, suc, ◌+◌, ◌≤◌, length, Ok, Err}
+use Rattle.std.specs.Prelude.{true, List, [], ◌∷◌, ◌++◌, ℕ, suc, ◌+◌, ◌≤◌, length, Result, Ok, Err}
 use native.Mathlib.Omega.{arith}
 use Rattle.std.proofs.Math.Seq.{length-sets}
 use Rattle.rules.specs.Base.{Got, got, refused, bounded, all, collect, sum_of}
 use Rattle.rules.specs.Refusals.{number_of}
-use Rattle.rules.specs.Rounds.{Step, bind, split, done, stuck, trySatisfy}
+use Rattle.rules.specs.Rounds.{State, Step, bind, split, done, stuck, trySatisfy}
 use Rattle.rules.specs.Trees.{Names, Ty, dim, Con, Binding, ◌≔◌, size, sizeCon, sizeBinding, depth, depthCon}
 use Rattle.rules.specs.WellFormed.{goodBinding}
 use Rattle.rules.specs.Writing.{words, writeCon, writeBinding}
@@ -32,6 +32,7 @@ use Rattle.laws.specs.RuleCases.{
   closed-struct,
   rule,
 }
+use Rattle.names.specs.declared.tables.NameTable.{NameTable}
 use Rattle.products.specs.Held.{law}
 use Rattle.records.specs.ByView.{size-pos}
 use Rattle.records.specs.Good as records
@@ -41,12 +42,16 @@ use Rattle.replace.specs.Written.{written-cons, written-binds}
 use Rattle.solve_step.specs.Stepped.{Stepped}
 use Rattle.solve_step.specs.declared.Step as code
 use Rattle.solve_step.specs.declared.Step.TheVariants.{Bind, Split, Done, Stuck}
+use Rattle.types.specs.declared.writer.Writer.{Writer}
 use Rattle.types.specs.Binds.{Binds, IsBinds, one-binds}
-use Rattle.types.specs.Sets.{Cons, HoldsCons, IsCons, one-set}
+use Rattle.types.specs.Sets.{Cons, IsCons, one-set}
 use Rattle.types.specs.Runs.{HoldsEach}
 use Rattle.solve_round.specs.declared.Others.{Others}
-use Rattle.solve_round.specs.Parts.{First, Taken}
-use Rattle.solve_round.specs.States.{SoundSet}
+use Rattle.solve_round.specs.declared.After.{After}
+use Rattle.solve_round.specs.Parts.{appends, First, Next, Taken}
+use Rattle.solve_round.specs.Standing.{Rounds, rounded}
+use Rattle.solve_round.specs.States.{SoundSet, Turn}
+use Rattle.solve_round.proofs.Written.{rounded-as}
 
 -- ══ A binding takes no more room than the constraint it comes from ══
 
@@ -194,8 +199,28 @@ pub not-stuck : {R : Got (Step ℕ)} {l : ℕ} → R ≡ refused l → R ≡ got
 not-stuck e i = let z = sym e ∙ i in cc
 
 -- whichever constraints or bindings stand there, they are these
-pub set-same : (s : List ℕ) (at end : ℕ) (cs : List (Con ℕ)) → IsCons s at end cs → (y : Cons s at end) → y.0 ≡ cs
-set-same s at end cs h y = ap (λ (z : Cons s at end). z.0) (one-set s at end y (cs, h))
+pub set-same : (s : List ℕ) (at end : ℕ) (cs : List (Con ℕ)) → IsCons s at end cs → (ds : List (Con ℕ)) → IsCons s at end ds → ds ≡ cs
+set-same s at end cs h ds k = ap (λ (z : Cons s at end). z.0) (one-set s at end (ds, k) (cs, h))
 
-pub binds-same : (s : List ℕ) (at end : ℕ) (bs : List (Binding ℕ)) → IsBinds s at end bs → (y : Binds s at end) → y.0 ≡ bs
-binds-same s at end bs h y = ap (λ (z : Binds s at end). z.0) (one-binds s at end y (bs, h))
+pub binds-same : (s : List ℕ) (at end : ℕ) (bs : List (Binding ℕ)) → IsBinds s at end bs → (ds : List (Binding ℕ)) → IsBinds s at end ds → ds ≡ bs
+binds-same s at end bs h ds k = ap (λ (z : Binds s at end). z.0) (one-binds s at end (ds, k) (bs, h))
+
+-- what is known of new constraints that stand there is known of these
+pub appends-same : {pool table : List ℕ} {w w' : Writer} {r : Turn} (o : Others) {s : List ℕ} {end : ℕ} {cs ds : List (Con ℕ)} → IsCons s 0 end cs
+    → SoundSet pool table cs → (SoundSet pool table ds → Next pool table w w' r (appends o ds)) → IsCons s 0 end ds
+    → Next pool table w w' r (appends o cs)
+appends-same {pool} {table} {w} {w'} {r} o {s} {end} {cs} {ds} h n f k =
+    let e = set-same s 0 end cs h ds k in
+    subst (λ (xs : List (Con ℕ)). Next pool table w w' r (appends o xs)) e (f (subst (SoundSet pool table) (sym e) n))
+
+-- so is what a round makes of the state that they are, and the buffer is told by what it came to
+pub rounded-over : (n : NameTable) {s : List ℕ} {at mid end last : ℕ} {st : State ℕ} {front left : List (Con ℕ)} → st.cons ≡ front ++ left
+    → IsCons s at mid front → IsCons s mid end left → IsBinds s end last st.binds
+    → {before behind : List (Con ℕ)} {bs : List (Binding ℕ)} {w w' : List ℕ} {r : Result After Refusal}
+    → Rounds n s w r (rounded n (record { cons = before ++ behind; binds = bs })) → w' ≡ w
+    → IsCons s at mid before → IsCons s mid end behind → IsBinds s end last bs → Rounds n s w' r (rounded n st)
+rounded-over n {s} {at} {mid} {end} {last} {st} {front} {left} i a b d {before} {behind} {bs} {w} {w'} {r} t e p q k =
+    let cons : st.cons ≡ before ++ behind = i ∙ sym (ap₂ ◌++◌ (set-same s at mid front a before p) (set-same s mid end left b behind q)) in
+    let binds : st.binds ≡ bs = sym (binds-same s end last st.binds d bs k) in
+    subst (λ (v : List ℕ). Rounds n s v r (rounded n st)) (sym e)
+    (rounded-as (ap₂ (λ (cs : List (Con ℕ)) (xs : List (Binding ℕ)). rounded n (record { cons = cs; binds = xs })) cons binds) t)

@@ -89,10 +89,10 @@ module _ (pool table : List ℕ) {b : Bindings} {x : ℕ} {t : Ty ℕ} (h : Boun
   lent f g = f pool table one g listed
 
   -- whichever way it is told what the names become
-  pub same-look : {places : List ℕ} (p : ALook pool table places b.words.now) → Fills b.words.now b.at b.end places → Good pool table
-      → p.0 ≡ bindings (names pool table) one
-  same-look {places} p f g = ap (λ (l : ALook pool table places b.words.now). l.0)
-      (one-look pool table places b.words.now p (bindings (names pool table) one, lent f g))
+  pub same-look : {places : List ℕ} {look : Look ℕ} → Fills b.words.now b.at b.end places → Good pool table → Lent pool table places b.words.now look
+      → look ≡ bindings (names pool table) one
+  same-look {places} {look} f g l = ap (λ (p : ALook pool table places b.words.now). p.0)
+      (one-look pool table places b.words.now (look, l) (bindings (names pool table) one, lent f g))
 
 -- ══ What they make ══
 

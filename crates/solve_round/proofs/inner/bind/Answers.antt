@@ -11,7 +11,7 @@ invariant_of-by c = let (x, t, h) = c.requires.bound
 pub rebind-requires-clause-bound : goal.rebind-requires-clause-bound
 rebind-requires-clause-bound c =
     let (x, t, h) = c.requires.bound in
-    (x, t, h, same-look c.args.names.pool.now c.args.names.table.now h c.rebind-arg-2-1.given.0 c.fill.ensures c.args.names.good)
+    (x, t, h, same-look c.args.names.pool.now c.args.names.table.now h c.fill.ensures c.args.names.good (search))
 
 pub returns : goal.returns
-returns c = λ x t h. c.rebind.ensures x t h (same-look c.args.names.pool.now c.args.names.table.now h c.rebind-arg-2-1.given.0 c.fill.ensures c.args.names.good)
+returns c = λ x t h. c.rebind.ensures x t h (same-look c.args.names.pool.now c.args.names.table.now h c.fill.ensures c.args.names.good (search))

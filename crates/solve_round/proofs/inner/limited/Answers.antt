@@ -10,25 +10,25 @@ returns-then-flat c = λ st m k. limit-kept _ _ _ _ st m c.if-ends-gt-RECORDS.fa
 pub constraints_flat-requires : goal.constraints_flat-requires
 constraints_flat-requires c =
     let (st, m, k) = c.requires.made in
-    cons-good _ _ _ _ st m c.if-ends-gt-RECORDS.false c.constraints_flat-arg-1.given.1.0
+    cons-good _ _ _ _ st m c.if-ends-gt-RECORDS.false _ (search)
 
 pub returns-then-not-constraints_flat : goal.returns-then-not-constraints_flat
 returns-then-not-constraints_flat c = λ st m k.
-    limit-cons _ _ _ _ st m c.if-ends-gt-RECORDS.false c.constraints_flat-arg-1.given.1.0 c.constraints_flat.ensures c.if-not-constraints_flat.true
+    limit-cons _ _ _ _ st m c.if-ends-gt-RECORDS.false c.constraints_flat.ensures c.if-not-constraints_flat.true (search)
 
 pub bindings_flat-requires : goal.bindings_flat-requires
 bindings_flat-requires c =
     let (st, m, k) = c.requires.made in
-    binds-good _ _ _ _ st m c.if-ends-gt-RECORDS.false c.bindings_flat-arg-1.given.1.0
+    binds-good _ _ _ _ st m c.if-ends-gt-RECORDS.false _ (search)
 
 pub returns-then-not-bindings_flat : goal.returns-then-not-bindings_flat
 returns-then-not-bindings_flat c = λ st m k.
-    limit-binds _ _ _ _ st m c.if-ends-gt-RECORDS.false c.bindings_flat-arg-1.given.1.0 c.bindings_flat.ensures c.if-not-bindings_flat.true
+    limit-binds _ _ _ _ st m c.if-ends-gt-RECORDS.false c.bindings_flat.ensures c.if-not-bindings_flat.true (search)
 
 pub returns : goal.returns
 returns c = λ st m k.
-    limit-flat _ _ _ _ st m c.if-ends-gt-RECORDS.false c.constraints_flat-arg-1.given.1.0 c.bindings_flat-arg-1.given.1.0
-    c.constraints_flat.ensures c.if-not-constraints_flat.false c.bindings_flat.ensures c.if-not-bindings_flat.false
+    limit-flat _ _ _ _ st m c.if-ends-gt-RECORDS.false c.constraints_flat.ensures c.if-not-constraints_flat.false c.bindings_flat.ensures c.if-not-bindings_flat.false
+    (search) (search)
 
 pub invariant_of-constraints : goal.invariant_of-constraints
 invariant_of-constraints c =

@@ -15,14 +15,14 @@ pub bind-requires-clause-bound : goal.bind-requires-clause-bound
 bind-requires-clause-bound c =
     let (k, t) = c.requires.taken in
     let b = took-bind _ _ _ _ _ k t c.requires.new_room c.in-Bind.is in
-    (b.name, b.type, record { is = binds-same _ _ _ _ b.there c.bind-arg-in-Bind-1.given.1.0; good = b.good; deep = b.deep; short = omega (arith, b.fits) })
+    (b.name, b.type, record { is = binds-same _ _ _ _ b.there _ (search); good = b.good; deep = b.deep; short = omega (arith, b.fits) })
 
 pub returns-in-Bind : goal.returns-in-Bind
 returns-in-Bind c = λ k t.
     let b = took-bind _ _ _ _ _ k t c.requires.new_room c.in-Bind.is in
     next-as (ap (after c.args.names.pool.now c.args.names.table.now c.args.rest) b.is)
     (c.bind.ensures b.name b.type (record
-    { is = binds-same _ _ _ _ b.there c.bind-arg-in-Bind-1.given.1.0; good = b.good; deep = b.deep; short = omega (arith, b.fits) }))
+    { is = binds-same _ _ _ _ b.there _ (search); good = b.good; deep = b.deep; short = omega (arith, b.fits) }))
 
 pub append_first-requires-clause-first : goal.append_first-requires-clause-first
 append_first-requires-clause-first c =

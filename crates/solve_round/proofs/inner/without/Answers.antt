@@ -10,7 +10,7 @@ invariant_of-behind c = let (before, behind, h) = c.requires in record { near = 
 
 pub returns : goal.returns
 returns c = λ before behind h. record {
-  before = set-same _ _ _ _ h.passed c.result-2-1.given.1.0;
-  behind = set-same _ _ _ _ (rw c.end.ensures h.stay) c.result-3-1.given.1.0;
+  before = set-same _ _ _ _ h.passed _ (search);
+  behind = set-same c.args.state.behind.words.now c.end.result c.args.state.behind.end behind (rw c.end.ensures h.stay) _ (search);
   bindings = refl;
 }
