@@ -8,7 +8,7 @@ use Rattle.rules.specs.Names.{table_of}
 use Rattle.rules.specs.Trees.{var, quant, par, Ty, opened, basic, dim, fn, struct, list, Con, equal, isDim, is_scalar, hasField, Binding, ◌≔◌, size, sizeCon}
 use Rattle.rules.specs.Views.{asVar}
 use Rattle.laws.specs.Checks.{next-passed}
-use Rattle.laws.specs.Lists.{bound-step, each-parts}
+use Rattle.laws.specs.Lists.{some≢none, bound-step, each-parts}
 use Rattle.records.specs.Found.{Words32}
 use Rattle.records.specs.Holds.{Holds, HoldsCon}
 use Rattle.records.specs.Parsed.{only}
@@ -19,22 +19,16 @@ use Rattle.types.specs.Sets.{HoldsCons}
 use Rattle.types.specs.Runs.{HoldsEach}
 use Rattle.edition_certificates.specs.Certificates.{lineOf, saying, pairOf, pairsOf, boundTo, bindingsIn}
 
-some-some : {x y : ℕ} → ◌≡◌ {A = Option ℕ} (some x) (some y) → x ≡ y
-some-some e = cc
-
-none-some : {x : ℕ} → ◌≡◌ {A = Option ℕ} none (some x) → ⊥
-none-some e = let z : ◌≡◌ {A = ℕ} 0 1 = cc in omega (arith, z)
-
 -- a type that is a variable
 is-var : (t : Ty ℕ) (x : ℕ) → asVar t ≡ some x → t ≡ opened (var x)
-is-var (opened (var y)) x e = ap (λ (z : ℕ). opened (var z)) (some-some e)
-is-var (opened (quant i)) x e = absurd (none-some e)
-is-var (opened (par y)) x e = absurd (none-some e)
-is-var (basic b) x e = absurd (none-some e)
-is-var (dim p) x e = absurd (none-some e)
-is-var (fn ps r) x e = absurd (none-some e)
-is-var (struct n as' fs) x e = absurd (none-some e)
-is-var (list t) x e = absurd (none-some e)
+is-var (opened (var y)) x e = ap (λ (z : ℕ). opened (var z)) (cc)
+is-var (opened (quant i)) x e = absurd (some≢none (sym e))
+is-var (opened (par y)) x e = absurd (some≢none (sym e))
+is-var (basic b) x e = absurd (some≢none (sym e))
+is-var (dim p) x e = absurd (some≢none (sym e))
+is-var (fn ps r) x e = absurd (some≢none (sym e))
+is-var (struct n as' fs) x e = absurd (some≢none (sym e))
+is-var (list t) x e = absurd (some≢none (sym e))
 
 of-one-record : (t : Ty ℕ) (x : ℕ) → t ≡ opened (var x) → size t ≡ 1
 unfolding size

@@ -1,6 +1,7 @@
 -- The lines of a certificate that is a well formed set stand in its words.
-use Rattle.std.specs.Prelude.{◌≡◌, true, ◌&&◌, List, [], ◌∷◌, ℕ, ◌/◌, ◌≤◌, leb, length}
-use Rattle.std.proofs.Common.{ap, arith}
+use Rattle.std.specs.Prelude.{◌≡◌, true, ◌&&◌, List, [], ◌∷◌, ℕ, ◌/◌, ◌≤◌, leb, length, Option, Result, IfOk}
+use Rattle.std.proofs.Common.{ap, arith, subst}
+use Rattle.std.proofs.lemmas.Result.{IfOk-weaker}
 use borrow.Author.Tests.{leb-true}
 use Rattle.rules.specs.Base.{got, ◌>>◌, all, sum_of}
 use Rattle.rules.specs.Calls.{aloneGiven, shortLists, tableKept, setCall, setGiven}
@@ -12,6 +13,8 @@ use Rattle.records.specs.Found.{Words32}
 use Rattle.records.specs.Whole.{entry-good}
 use Rattle.types.specs.Sets.{Cons, IsCons, one-set}
 use Rattle.judge.proofs.Rest.{set_there}
+use Rattle.edition_certificates.specs.Proposals.{Proposed, ProposedBy}
+use Rattle.edition_certificates.specs.declared.inner.Proposal.{Proposal}
 
 module _ (pool table s : List ℕ) (w : Words32 s) (e : setCall pool table s ≡ got tt) where
   alone : aloneGiven pool table s ≡ got tt
@@ -34,9 +37,13 @@ module _ (pool table s : List ℕ) (w : Words32 s) (e : setCall pool table s ≡
   lines-stand ds g = (set_there pool table s [] ds []
       (record { good = entry-good pool table s alone; given = g; short = short; types-short = omega arith }) w).held
 
-  -- whichever lines stand there, they are those, and few
-  pub same : (h : Cons s 0 (length s / 4)) (ds : List (Con ℕ)) → setGiven (table_of pool table) s ≡ got ds → h.0 ≡ ds
-  same h ds g = ap (λ (x : Cons s 0 (length s / 4)). x.0) (one-set s 0 (length s / 4) h (ds, lines-stand ds g))
+  -- whichever lines stand there, they are few, and those: what they propose, the certificate does
+  module _ (ls : List (Con ℕ)) (h : IsCons s 0 (length s / 4) ls) where
+    pub few : sum_of sizeCon ls ≤ 2048
+    few = omega (arith, h.ends, short)
 
-  pub few : (h : Cons s 0 (length s / 4)) → sum_of sizeCon h.0 ≤ 2048
-  few h = omega (arith, h.1.ends, short)
+    same : (ds : List (Con ℕ)) → setGiven (table_of pool table) s ≡ got ds → ls ≡ ds
+    same ds g = ap (λ (x : Cons s 0 (length s / 4)). x.0) (one-set s 0 (length s / 4) (ls, h) (ds, lines-stand ds g))
+
+    pub proposed : {E : Type 0} (r : Result (Option Proposal) E) → IfOk r (ProposedBy ls) → IfOk r (Proposed pool table s)
+    proposed r = IfOk-weaker r (ProposedBy ls) (Proposed pool table s) (λ p k ds g. subst (λ (cs : List (Con ℕ)). ProposedBy cs p) (same ds g) k)
