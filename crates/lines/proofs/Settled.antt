@@ -21,6 +21,7 @@ use Rattle.theorems_soundness.proofs.Words.{numbers-ordered}
 use Rattle.theorems_soundness.proofs.Form.{solved-form}
 use Rattle.records.specs.Good.{numbers, holding}
 use Rattle.queries.specs.Scans.{opensIn}
+use Rattle.records_buffers.specs.Handed.{made-refused}
 use Rattle.records_buffers.specs.Told.{Made}
 use Rattle.solve.specs.Told.{StandsBy, Stands}
 use Rattle.solve_finish.specs.Told.{IsSolved}
@@ -29,7 +30,7 @@ use Rattle.solve.specs.declared.Solution.{Solution}
 use Rattle.solve_finish.specs.declared.Finish.TheVariants as finish
 use Rattle.judge.specs.Found.{FoundThere}
 use Rattle.lines.specs.Standing.{SetStands, set-opens}
-use Rattle.lines.specs.Typed.{typeRecs, judgedType, setType, refused-made}
+use Rattle.lines.specs.Typed.{typeRecs, judgedType, setType}
 
 -- ══ The outcomes of solving ══
 
@@ -95,7 +96,7 @@ module _ (pool table set : List ℕ) (cs : List (Con ℕ)) (h : SetStands pool t
 
   pub mixed-made : {b : Bool} → Told b → b ≡ false → (w : List ℕ) → Made (setType pool table cs v) w (Err Mixed)
   unfolding agreedSet settledSet
-  mixed-made t i w = refused-made (setType pool table cs v) w Mixed (rw (small, told_is t, i))
+  mixed-made t i w = made-refused Mixed (rw (small, told_is t, i))
 
   module _ {b : Bool} (t : Told b) (i : b ≡ true) where
     after-solving : setType pool table cs v
@@ -108,7 +109,7 @@ module _ (pool table set : List ℕ) (cs : List (Con ℕ)) (h : SetStands pool t
 
     pub refused-settled : (w : List ℕ) (k : Refusal) → settled (solve (numbers pool table) bounded cs) ≡ refused (number_of k)
         → Made (setType pool table cs v) w (Err k)
-    refused-settled w k e = refused-made (setType pool table cs v) w k (after-solving ∙ rw e)
+    refused-settled w k e = made-refused k (after-solving ∙ rw e)
 
     module _ (good : Good pool table) {found : List ℕ} {b' n : ℕ} (a : Accepts (solve (numbers pool table) bounded cs) found b' n) where
       -- the judge can take what was found

@@ -2,11 +2,11 @@
 use Rattle.std.specs.Prelude as std
 use Rattle.std.specs.Prelude.{◌≡◌, refl, is_none, List, [], ◌∷◌, ◌++◌, map, ℕ, ◌+◌, ◌*◌, ◌-◌, ◌≤◌, length, take, drop, Result, Ok, Err, None, Some}
 use Rattle.std.proofs.Math.Path.{sym, ap}
-use Rattle.std.proofs.Common.{subst, ◌∙◌, arith, take_at}
+use Rattle.std.proofs.Common.{◌∙◌, arith}
 use Rattle.std.proofs.Math.Bool.{true, false}
 use Rattle.std.proofs.Math.Option.{Option, get_or}
-use Rattle.std.proofs.lemmas.List.Edits.{sets, sets-eq}
-use Rattle.std.proofs.Math.Seq.{slice, length-sets}
+use Rattle.std.proofs.lemmas.List.Edits.{sets}
+use Rattle.std.proofs.Math.Seq.{slice}
 use Rattle.rules.specs.Base.{Got, got, refused, ◌>>=◌, ◌>>◌, bounded}
 use Rattle.rules.specs.Trees.{var, Ty, opened, Con, Binding, size}
 use Rattle.rules.specs.Replacing.{Look, replaceTy, bindings}
@@ -16,8 +16,7 @@ use Rattle.rules.specs.Writing.{Rec, words, writeTy}
 use Rattle.rules.specs.Lines.{its, agreed, agreedSet}
 use Rattle.rules.specs.declared.Refusal.{Refusal}
 use Rattle.rules.specs.declared.Refusal.TheVariants.{NotConfirmed}
-use Rattle.laws.specs.Lists.{clash}
-use Rattle.laws.specs.Size.{size-ty, words-length}
+use Rattle.laws.specs.Size.{size-ty}
 use Rattle.records.specs.Views.{recOf}
 use Rattle.records.specs.Good.{numbers}
 use Rattle.records.specs.ByView.{ends-in}
@@ -26,7 +25,8 @@ use Rattle.records.specs.declared.Open.TheVariants as opens
 use Rattle.records.specs.declared.View.TheVariants as view
 use Rattle.replace.specs.Places.{Tabled}
 use Rattle.replace.specs.Runs.{LookedUp, found, not_found, Found}
-use Rattle.records_buffers.specs.Told.{Front, Made}
+use Rattle.records_buffers.specs.Handed.{made-refused, made-records}
+use Rattle.records_buffers.specs.Told.{Made}
 use Rattle.judge.specs.Found.{FoundThere}
 use Rattle.lines.specs.Standing.{SetStands}
 
@@ -74,23 +74,6 @@ module _ (places w : List ℕ) (look : Look ℕ) (v : ℕ) (tabled : Tabled plac
 
 -- ══ Answers ══
 
--- a refusal makes nothing
-pub refused-made : (m : Got (List Rec)) (w : List ℕ) (k : Refusal) → m ≡ refused (number_of k) → Made m w (Err k)
-refused-made m w k e = record { answer = sym (rw e); front = λ rs i. clash (sym e ∙ i) }
-
--- records that were written from the start make what they are
-records-made : (m : Got (List Rec)) (rs : List Rec) (d d' : List ℕ) (n : ℕ) → m ≡ got rs → 16384 ≤ length d → d' ≡ sets d 0 (words rs)
-    → length rs ≤ 2048 → n ≡ length rs → Made m d' (Ok n)
-records-made m rs d d' n i room e le q =
-    let k = words-length rs in
-    let z : d' ≡ words rs ++ drop (0 + length (words rs)) d = e ∙ sets-eq (words rs) d 0 (omega arith) in
-    let f : Front rs d' = record {
-      few = le;
-      room = omega (arith, ap length e ∙ length-sets d 0 (words rs));
-      there = ap (take (length rs * 4)) z ∙ take_at (words rs) (drop (0 + length (words rs)) d) (length rs * 4) k;
-    } in
-    record { answer = ap got q ∙ sym (rw i); front = λ qs j. let y : rs ≡ qs = cc in subst (λ (x : List Rec). Front x d') y f }
-
 module _ (pool table : List ℕ) where
   -- the type of v with the bindings put in, as records
   abbrev pub typeRecs : List (Binding ℕ) → ℕ → Got (List Rec)
@@ -117,12 +100,12 @@ module _ (pool table : List ℕ) where
     pub judged-no : (w : List ℕ) (k : ℕ) → r ≡ Ok (Some k) → Made (judgedType cs bs ns v) w (Err NotConfirmed)
     unfolding agreed
     judged-no w k i = let e : judge (numbers pool table) bounded bs ns cs ≡ got false = sym h ∙ ap (toldBy is_none) i
-        in refused-made (judgedType cs bs ns v) w NotConfirmed (rw e)
+        in made-refused NotConfirmed (rw e)
 
     pub judged-refused : (w : List ℕ) (k : Refusal) → r ≡ Err k → Made (judgedType cs bs ns v) w (Err k)
     unfolding agreed
     judged-refused w k i = let e : judge (numbers pool table) bounded bs ns cs ≡ refused (number_of k) = sym h ∙ ap (toldBy is_none) i
-        in refused-made (judgedType cs bs ns v) w k (rw e)
+        in made-refused k (rw e)
 
     pub judged-yes : (w w' : List ℕ) (n : ℕ) → r ≡ Ok None → 16384 ≤ length w → Typed (bindings (numbers pool table) bs) v w w' n
         → Made (judgedType cs bs ns v) w' (Ok n)
@@ -130,4 +113,4 @@ module _ (pool table : List ℕ) where
     judged-yes w w' n i room t =
         let e : judge (numbers pool table) bounded bs ns cs ≡ got true = sym h ∙ ap (toldBy is_none) i in
         let k = size-ty t.type in
-        records-made (judgedType cs bs ns v) (writeTy t.type) w w' n (rw (e, t.is)) room t.buffer (omega (arith, t.few)) (omega (arith, t.many))
+        made-records (judgedType cs bs ns v) (writeTy t.type) w w' n (rw (e, t.is)) room t.buffer (omega (arith, t.many)) (omega (arith, t.few, t.many))

@@ -1,6 +1,6 @@
 -- The whole call past the check of 10: from the steps in words to the type of the last one.
 use Rattle.std.specs.Prelude.{Result, Ok, Err, IfOk, ◌≡◌, refl, Bool, List, [], ◌∷◌, ℕ, suc, ◌-◌, ◌*◌, ◌≤◌, ◌<◌, leb, length, get_or}
-use Rattle.std.proofs.Common.{sym, subst, ap₂, ◌∙◌, arith}
+use Rattle.std.proofs.Common.{sym, subst, ◌∙◌, arith}
 use Rattle.std.proofs.Math.Path.{ap}
 use Rattle.std.proofs.Math.Bool.{true}
 use Rattle.std.proofs.Math.Option.{some}
@@ -30,13 +30,14 @@ use Rattle.names.specs.Told.{unit_of}
 use Rattle.names.specs.declared.tables.NameTable.{NameTable}
 use Rattle.records.specs.Good.{numbers, holding}
 use Rattle.records_buffers.specs.Lent.{Long, long}
-use Rattle.records_buffers.specs.Handed.{as_written, unwritten}
+use Rattle.records_buffers.specs.Handed.{as_written, unwritten, made-refused}
 use Rattle.records_buffers.specs.Told.{handed, Made}
+use Rattle.types.proofs.Tested as tables
 use Rattle.types.proofs.Tested.{as-refused}
 use Rattle.lines_entry.specs.Entered.{lineEntered, entered_over, checked-entered}
 use Rattle.laws.specs.Nesting.{Within}
 use Rattle.lines.specs.Nested.{Flat, constraints-flat, line-flat}
-use Rattle.lines.specs.Typed.{setType, refused-made}
+use Rattle.lines.specs.Typed.{setType}
 
 -- ══ The last step ══
 
@@ -115,7 +116,7 @@ module _ (pool table names : List ℕ) where
 
     pub large-made : (w : List ℕ) → 2048 < sum_of sizeCon cs → Made (type_of pool table names ss) w (Err TooLarge)
     unfolding agreedSet settledSet
-    large-made w l = refused-made (type_of pool table names ss) w TooLarge (type-is ∙ rw (lt-leb (sum_of sizeCon cs) 2048 l))
+    large-made w l = made-refused TooLarge (type-is ∙ rw (lt-leb (sum_of sizeCon cs) 2048 l))
 
 -- ══ The checks at entry ══
 
@@ -156,9 +157,8 @@ module _ (steps types lines names : List ℕ) where
 
   pub refused-line : (table : Result NameTable Refusal) (w : List ℕ) (k : Refusal) → entered_over table steps types lines names ≡ refused (number_of k)
       → Made (line_over table steps types lines names) w (Err k)
-  refused-line (Ok n) w k e = refused-made (checkedLine (over n) steps types lines names) w k (checked-entered (over n) steps types lines names ∙ rw e)
-  refused-line (Err why) w k e = refused-made (line_over (Err why) steps types lines names) w k
-      (as-refused (lineShort steps types lines names) (number_of k) (number_of why) (sym e))
+  refused-line (Ok n) w k e = made-refused k (checked-entered (over n) steps types lines names ∙ rw e)
+  refused-line (Err why) w k e = made-refused k (as-refused (lineShort steps types lines names) (number_of k) (number_of why) (sym e))
 
   -- no line comes in over a table that was refused
   pub no-table : {A : Type 0} (table : Result NameTable Refusal) (why : Refusal) (ss : List (LineStep ℕ)) → table ≡ Err why
@@ -169,22 +169,15 @@ module _ (pool table steps types lines names : List ℕ) where
   abbrev t : Table
   t = table_of pool table
 
-  abbrev past : Got (Unit {0}) → Got (List Rec)
-  past k = lineShort steps types lines names >> (k >> (lineGiven t steps types lines >>= λ ss. need (fresh names ss) 4
-      >> (need (all (is_held t) names) 3 >> (lineType (numbersOf t) ss names >>= λ ty. got (writeTy ty)))))
-
-  refused-table : (l : lentTable pool table ≡ got tt) (k : ℕ) (a : Got (Unit {0})) → tableKept t ≡ a → refused k ≡ (lentTable pool table >> a)
-      → (lineShort steps types lines names >> refused k) ≡ checkedLine t steps types lines names
-  unfolding checkedLine
-  refused-table l k (got u) q e = clash (let z : refused k ≡ got u = rw l at e in z)
-  refused-table l k (refused j) q e = let z : refused k ≡ refused j = rw l at e in ap past (z ∙ sym q)
+  abbrev past : Table → Got (Unit {0}) → Got (List Rec)
+  past u k = lineShort steps types lines names >> (k >> (lineGiven u steps types lines >>= λ ss. need (fresh names ss) 4
+      >> (need (all (is_held u) names) 3 >> (lineType (numbersOf u) ss names >>= λ ty. got (writeTy ty)))))
 
   -- over the table that was tested it is what the call asks
   pub tested : lentTable pool table ≡ got tt → (n : Result NameTable Refusal) → toldBy unit_of n ≡ tableGiven pool table
       → IfOk n (λ n. (n.pool.now ≡ pool) × (n.table.now ≡ table)) → line_over n steps types lines names ≡ checkedLine t steps types lines names
-  unfolding tableGiven tableKept
-  tested l (Ok n) e i = ap₂ (λ (p q : List ℕ). checkedLine (table_of p q) steps types lines names) i.0 i.1
-  tested l (Err why) e i = refused-table l (number_of why) (tableKept t) refl e
+  unfolding checkedLine
+  tested l = tables.tested past pool table l (λ n. line_over n steps types lines names) (λ n. refl) (λ why. refl)
 
   -- ══ The call ══
 

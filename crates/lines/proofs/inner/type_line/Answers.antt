@@ -1,6 +1,6 @@
 -- `inner::type_line` meets its contract.
 use native.Mathlib.Omega.{arith}
-use Rattle.std.proofs.Common.{◌≡◌, refl, rules}
+use Rattle.std.proofs.Common.{refl, rules}
 use lib.ListN.{length-replicate}
 use Prim.Native.Nat.{ℕ}
 use Rattle.lines_entry.specs.Told.{steps-long}
@@ -24,18 +24,16 @@ bounds-lent-steps c =
 pub settle-requires-clause-stands : goal.settle-requires-clause-stands
 settle-requires-clause-stands c =
     let h = c.requires.read in
-    let g = c.args.names.good in
-    let back : c.set-2-1.given.0 ≡ c.put_line.new.out.words.now = search rules in (
+    let g = c.args.names.good in (
       _,
       set-stands _ _ _ (cs-good _ _ _ g _ h) (cs-flat _ _ _ g _ h) _ _ c.put_line.ensures refl c.if-n-gt-RECORDS.false
-          (omega (arith, length-replicate {A = ℕ} 8192 0)) _ back,
+          (omega (arith, length-replicate {A = ℕ} 8192 0)) _ (search rules),
     )
 
 pub returns : goal.returns
 returns c =
     let h = c.requires.read in
     let g = c.args.names.good in
-    let back : c.set-2-1.given.0 ≡ c.put_line.new.out.words.now = search rules in
     type-made _ _ _ g _ h _ (steps-long c.args.steps.now) _ _ (c.settle.ensures _
     (set-stands _ _ _ (cs-good _ _ _ g _ h) (cs-flat _ _ _ g _ h) _ _ c.put_line.ensures refl c.if-n-gt-RECORDS.false
-    (omega (arith, length-replicate {A = ℕ} 8192 0)) _ back))
+    (omega (arith, length-replicate {A = ℕ} 8192 0)) _ (search rules)))
