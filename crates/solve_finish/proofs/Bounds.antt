@@ -179,8 +179,8 @@ module _ (pool table s : List ℕ) (p : Place) (st : State ℕ) (h : StateHeld p
   m = p.ends.bindings
 
   -- whichever constraints stand there, they are those of the state
-  pub of-state : {d d' : List ℕ} {k : ℕ} (x : Cons s b n) → Copied d d' 0 k (others x.0) → Copied d d' 0 k (others st.cons)
-  of-state {d} {d'} {k} x c = subst (λ (y : Cons s b n). Copied d d' 0 k (others y.0)) (one-set s b n x (st.cons, h.cons)) c
+  pub of-state : {d d' : List ℕ} {k : ℕ} {cs : List (Con ℕ)} → Copied d d' 0 k (others cs) → IsCons s b n cs → Copied d d' 0 k (others st.cons)
+  of-state {d} {d'} {k} {cs} c i = subst (λ (y : Cons s b n). Copied d d' 0 k (others y.0)) (one-set s b n (cs, i) (st.cons, h.cons)) c
 
   -- what `list_names` asks
   pub names-known : Every (λ x. x < get_or table 0 0) (choose Both (opensIn s b n))

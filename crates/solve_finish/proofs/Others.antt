@@ -67,12 +67,12 @@ module _ (w₀ w : Writer) (cs : List (Con ℕ)) where
   still-none now e s = s w (rw e (writes-none w))
 
   -- written to the front of a buffer
-  pub front-copied : {d d' : List ℕ} → sum_of sizeCon cs ≤ 2048 → w₀.at ≡ 0 → w₀.words.now ≡ d → w.words.now ≡ d' → Writes w₀ w (collect writeCon (others cs))
-      → Copied d d' 0 w.at (others cs)
-  front-copied few z i j h =
+  pub front-copied : {d d' : List ℕ} → sum_of sizeCon cs ≤ 2048 → w₀.at ≡ 0 → w₀.words.now ≡ d → Writes w₀ w (collect writeCon (others cs))
+      → d' ≡ w.words.now → Copied d d' 0 w.at (others cs)
+  front-copied few z i h j =
       let n : length (collect writeCon (others cs)) ≡ sum_of sizeCon (others cs) = set-length (others cs) in
       let m = others-few cs in
       record {
         many = omega (arith, h.at, n, m, few, z);
-        buffer = rw (← i, ← j) (h.words (omega (arith, n, m, few, z)) ∙ ap (λ (k : ℕ). sets w₀.words.now (k * 4) (words (collect writeCon (others cs)))) z);
+        buffer = rw (← i, j) (h.words (omega (arith, n, m, few, z)) ∙ ap (λ (k : ℕ). sets w₀.words.now (k * 4) (words (collect writeCon (others cs)))) z);
       }

@@ -13,17 +13,17 @@ pub returns-then-left-gt0 : goal.returns-then-left-gt0
 returns-then-left-gt0 c = λ st k.
     let h = k.held in
     let b = binds-in _ _ _ _ st h c.requires.state_room in
-    finished-remaining _ _ st _ _ _ (of-state _ _ _ _ st h c.requires.state_room c.copy_others-arg-2-1.given.1.0 c.copy_others-left.ensures) c.if-left-gt0.true
+    finished-remaining _ _ st _ _ _ (of-state _ _ _ _ st h c.requires.state_room c.copy_others-left.ensures (search)) c.if-left-gt0.true
     (omega (arith, h.short, b.0, h.cons.ends)) c.requires.room h.sound_cons.good
 
 pub accept-bounds-requires-clause-standing : goal.accept-bounds-requires-clause-standing
 accept-bounds-requires-clause-standing c =
     let (st, k) = c.requires.standing in
-    let o = of-state _ _ _ _ st k.held c.requires.state_room c.copy_others-arg-2-1.given.1.0 c.copy_others-left.ensures in
+    let o = of-state _ _ _ _ st k.held c.requires.state_room c.copy_others-left.ensures (search) in
     (st, k, (none-remains _ _ _ _ o c.if-left-gt0.false).0)
 
 pub returns : goal.returns
 returns c = λ st k.
     let h = k.held in
-    let r = none-remains _ _ _ _ (of-state _ _ _ _ st h c.requires.state_room c.copy_others-arg-2-1.given.1.0 c.copy_others-left.ensures) c.if-left-gt0.false in
+    let r = none-remains _ _ _ _ (of-state _ _ _ _ st h c.requires.state_room c.copy_others-left.ensures (search)) c.if-left-gt0.false in
     finished-accepted _ _ _ _ st _ _ _ _ h r.0 r.1 (c.accept-bounds.ensures st k r.0)
