@@ -1,7 +1,10 @@
+pub mod Indented
 pub mod Kept
+pub mod Leads
 pub mod Lines
 pub mod OneLine
 pub mod ReadBack
+pub mod ReadWritable
 pub mod SheetLines
 pub mod Splitting
 pub mod Written

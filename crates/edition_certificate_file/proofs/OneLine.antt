@@ -10,7 +10,7 @@ use Rattle.rules.specs.TextWriting.{decimal}
 use Rattle.edition_certificate_file.specs.Files.{isEscaped, writtenWhere, writtenByte, writtenName}
 use Rattle.edition_certificate_file.specs.Reading.{lineFeed}
 use Rattle.edition_certificate_file.specs.Writable.{onOneLine}
-use Rattle.edition_certificate_file.proofs.Splitting.{neither}
+use Rattle.edition_certificate_file.proofs.Splitting.{Flat, neither}
 
 module _ {X : Type 0} (p : X → Bool) where
   -- of two lists that each have none that passes
@@ -29,29 +29,29 @@ module _ (p : ℕ → Bool) (past : p 0 ≡ false) (digits : List ℕ) (none : l
   in-digits [] = refl
   in-digits (b ∷ bs) = rw (in-table digits (b / 16) none, in-table digits (b % 16) none, in-digits bs)
 
-pub digits-on-line : (bs : List ℕ) → list_any lineFeed (encode_lower bs) ≡ false
+pub digits-on-line : (bs : List ℕ) → Flat (encode_lower bs)
 digits-on-line = in-digits lineFeed refl lower_digits refl
 
 pub no-capital : (bs : List ℕ) → list_any is_ascii_uppercase (encode_lower bs) ≡ false
 no-capital = in-digits is_ascii_uppercase refl lower_digits refl
 
-pub number-on-line : (k n : ℕ) → list_any lineFeed (decimal k n) ≡ false
+pub number-on-line : (k n : ℕ) → Flat (decimal k n)
 unfolding decimal
 number-on-line zero n = refl
 number-on-line (suc k) n = go (ltb n 10) refl (number-on-line k (n / 10))
   where
-    go : (b : Bool) → ltb n 10 ≡ b → list_any lineFeed (decimal k (n / 10)) ≡ false → list_any lineFeed (decimal (suc k) n) ≡ false
+    go : (b : Bool) → ltb n 10 ≡ b → Flat (decimal k (n / 10)) → Flat (decimal (suc k) n)
     go true e h = rw (e, decimal) (rw (ne_eqb (n + 48) 10 (omega arith)) refl)
     go false e h = rw (e, decimal) (none-in-both lineFeed (decimal k (n / 10)) ((n % 10 + 48) ∷ []) h (rw (ne_eqb (n % 10 + 48) 10 (omega arith)) refl))
 
-byte-on-line : (b : ℕ) → list_any lineFeed (writtenByte b) ≡ false
+byte-on-line : (b : ℕ) → Flat (writtenByte b)
 byte-on-line b = go (isEscaped b) refl
   where
-    go : (t : Bool) → isEscaped b ≡ t → list_any lineFeed (writtenWhere t b) ≡ false
+    go : (t : Bool) → isEscaped b ≡ t → Flat (writtenWhere t b)
     go true e = digits-on-line (b ∷ [])
     go false e = rw (ne_eqb b 10 (λ q. let z : isEscaped 10 ≡ false = rw q at e in cc z)) refl
 
-name-on-line : (name : Bytes) → list_any lineFeed (collect writtenByte name) ≡ false
+name-on-line : (name : Bytes) → Flat (collect writtenByte name)
 unfolding collect
 name-on-line [] = refl
 name-on-line (b ∷ name) = none-in-both lineFeed (writtenByte b) (collect writtenByte name) (byte-on-line b) (name-on-line name)

@@ -1,214 +1,99 @@
--- What is written is read back: line by line, sheet by sheet.
-use Rattle.std.proofs.Common.{
-  ◌≡◌,
-  refl,
-  sym,
-  ap,
-  ◌∙◌,
-  ◌++◌,
-  ◌+◌,
-  ◌-◌,
-  Bool,
-  true,
-  false,
-  not,
-  ℕ,
-  List,
-  [],
-  ◌∷◌,
-  length,
-  map,
-  eqb,
-  arith,
-  append-nil,
-  append_assoc,
-  length-append,
-  eqb-true,
-  Ok,
-  Some,
-}
-use Rattle.std.specs.List.{list_all, slice_split}
+-- What is written is read back: the whole text.
+use Rattle.std.proofs.Common.{◌≡◌, refl, sym, ap, ◌∙◌, ◌++◌, ◌+◌, true, ℕ, List, [], ◌∷◌, length, map, arith, append-nil, append_assoc, length-append, Ok, Err, None}
+use Rattle.std.specs.List.{list_all, slice_split, count_by}
+use Rattle.std.proofs.lemmas.List.Splits.{length-slice_split}
 use Rattle.std.proofs.lemmas.Bool.{and_parts, not-true}
-use Rattle.std.specs.Cmp.Lexicographic.{same_text}
-use Rattle.std.proofs.lemmas.Cmp.{nat_list_eq_equiv}
-use Rattle.std.proofs.lemmas.List.{take_at, drop_at}
-use lib.Pointwise.{pointwise}
-use Rattle.hex.specs.Hex.{encode_lower, IsBytes}
-use Rattle.hex.proofs.HexLemmas.{decode_sized-encode_lower}
-use Rattle.rules.specs.Base.{any, collect}
+use Rattle.std.proofs.lemmas.List.{take_at}
+use Rattle.rules.specs.Base.{collect}
 use Rattle.rules.specs.Grammar.{ascii}
-use Rattle.rules.specs.Names.{Bytes, sameBytes, distinct}
-use Rattle.laws.specs.Lists.{Every, true≢false}
-use Rattle.laws.specs.NameTable.{same-yes}
+use Rattle.rules.specs.Names.{Bytes, distinct}
+use Rattle.laws.specs.Lists.{Every}
+use Rattle.laws.specs.Contents.{collect-append}
+use Rattle.edition_certificate_file.specs.declared.Fault.TheVariants.{Line}
 use Rattle.edition_certificate_file.specs.Files.{Kept, lastLine, keptText, keptsText}
-use Rattle.edition_certificate_file.specs.Reading.{
-  between,
-  ended,
-  named,
-  inside,
-  Reached,
-  allRead,
-  betweenRead,
-  digestIn,
-  insideRead,
-  lineRead,
-  linesRead,
-  endsLine,
-  restRead,
-  textRead,
-  asWritten,
-  certificateRead,
-  isKept,
-  lineFeed,
-}
-use Rattle.edition_certificate_file.specs.Writable.{beginsBlank, nameOf, writable, allWritable}
-use Rattle.edition_certificate_file.proofs.Splitting.{neither, asLine, one-part}
-use Rattle.edition_certificate_file.proofs.OneLine.{none-in-both, no-capital, number-on-line}
-use Rattle.edition_certificate_file.proofs.SheetLines.{Sheet, ownLines, sheetLines, sheets, sheets-split}
+use Rattle.edition_certificate_file.specs.Reading.{between, ended, betweenRead, lineRead, linesRead, restRead, textRead, asWritten, certificateRead, isKept, lineFeed}
+use Rattle.edition_certificate_file.specs.Writable.{onOneLine, nameOf, writable, allWritable}
+use Rattle.edition_certificate_file.proofs.Splitting.{one-part}
+use Rattle.edition_certificate_file.proofs.Indented.{at-end, ends-line}
+use Rattle.edition_certificate_file.proofs.OneLine.{number-on-line}
+use Rattle.edition_certificate_file.proofs.SheetLines.{Sheet, sheetLines, sheets, belowName, name-split, sheets-split}
+use Rattle.edition_certificate_file.proofs.Leads.{Leads, leads-on, leads-all, leads-to-none, sheets-lead, same-refl, fresh, nothing-kept, last-leads}
 
--- lines lead from one place to another
-abbrev pub Leads : Reached → List Bytes → Reached → Type 0
-Leads r [] end = r ≡ end
-Leads r (line ∷ lines) end = (next : Reached) × (lineRead r line ≡ Some next) × Leads next lines end
+rest-read : (front : Bytes) → restRead (front ++ 10 ∷ []) ≡ linesRead 2 ([], between) (slice_split lineFeed front)
+unfolding restRead
+rest-read front =
+    rw (ends-line front) (ap (λ (t : Bytes). linesRead 2 ([], between) (slice_split lineFeed t)) (take_at front (10 ∷ []) _ (at-end front)))
 
-pub leads-on : (r : Reached) (lines more : List Bytes) (mid end : Reached) → Leads r lines mid → Leads mid more end → Leads r (lines ++ more) end
-leads-on r [] more mid end h k = rw h k
-leads-on r (line ∷ lines) more mid end h k = (h.0, h.1, leads-on h.0 lines more mid end h.2 k)
+-- a certificate without its last line feed
+abbrev front : List Kept → Bytes
+front ks = collect keptText ks ++ lastLine (length ks)
 
--- lines that lead behind the last are read
-pub leads-all : (n : ℕ) (r : Reached) (lines : List Bytes) (ks : List Kept) → Leads r lines (ks, ended) → linesRead n r lines ≡ Ok ks
-unfolding linesRead
-leads-all n r [] ks h = ap allRead h
-leads-all n r (line ∷ lines) ks h = rw (h.1, linesRead) (leads-all (n + 1) h.0 lines ks h.2)
-
--- ══ The lines of a sheet ══
-
-module _ (before : List Kept) (name digest : Bytes) where
-  abbrev at : Bytes → Reached
-  at lines = (before, inside (record { name = name; digest = digest; lines = lines }))
-
-  -- a line that begins with a blank isn't the sheet's end
-  no-end : (line : Bytes) → beginsBlank line ≡ true → pointwise eqb line (ascii "end") ≡ false
-  no-end [] h = refl
-  no-end (b ∷ line) h =
-      let blank : 32 ≡ b = eqb-true 32 b (and_parts (eqb 32 b) _ h).0 in
-      rw (← blank) refl
-
-  indented : (so-far line : Bytes) → beginsBlank line ≡ true → lineRead (at so-far) line ≡ Some (at (so-far ++ asLine line))
-  unfolding lineRead insideRead
-  indented so-far line h = rw (no-end line h, h) refl
-
-  body : (so-far : Bytes) (lines : List Bytes) → list_all beginsBlank lines ≡ true → Leads (at so-far) lines (at (so-far ++ collect asLine lines))
-  unfolding collect
-  body so-far [] h = ap at (sym (append-nil so-far))
-  body so-far (line ∷ lines) h =
-      let each = and_parts (beginsBlank line) (list_all beginsBlank lines) h in
-      let more = body (so-far ++ asLine line) lines each.1 in
-      (at (so-far ++ asLine line), indented so-far line each.0, rw (sym (append_assoc so-far (asLine line) (collect asLine lines))) more)
-
-  -- the line with its digest
-  digested : length digest ≡ 32 → IsBytes digest → digestIn (ascii "sha256 " ++ encode_lower digest) ≡ Some digest
-  unfolding digestIn
-  digested many bytes = rw (no-capital digest, decode_sized-encode_lower digest 32 many bytes) refl
-
--- a sheet whose name is new leads to one more
-sheet-leads : (before : List Kept) (k : Kept) → Sheet k → isKept k.name before ≡ false
-    → Leads (before, between) (sheetLines k) (before ++ k ∷ [], between)
-unfolding lineRead betweenRead insideRead
-sheet-leads before k s new =
-    let first = at before k.name k.digest [] in
-    let last = at before k.name k.digest k.lines in
-    let after : Reached = (before ++ k ∷ [], between) in
-    let lines : Leads first (ownLines k.lines) last = rw (s.lines.whole) at (body before k.name k.digest [] (ownLines k.lines) s.lines.blank) in
-    let rest = leads-on first (ownLines k.lines) (ascii "end" ∷ []) last after lines (after, refl, refl) in
-    ((before, named k.name), rw new refl, (first, rw (digested before k.name k.digest s.many s.bytes) refl, rest))
-
--- ══ Sheets ══
-
--- no name is that of a sheet before
-abbrev Fresh : List Kept → List Kept → Type 0
-Fresh before [] = Unit {0}
-Fresh before (k ∷ ks) = (isKept k.name before ≡ false) × Fresh (before ++ k ∷ []) ks
-
-sheets-lead : (before ks : List Kept) → Every Sheet ks → Fresh before ks → Leads (before, between) (collect sheetLines ks) (before ++ ks, between)
-unfolding collect
-sheets-lead before [] s new = ap (λ (l : List Kept). (l, between)) (sym (append-nil before))
-sheets-lead before (k ∷ ks) s new =
-    let more = sheets-lead (before ++ k ∷ []) ks s.1 new.1 in
-    leads-on (before, between) (sheetLines k) (collect sheetLines ks) (before ++ k ∷ [], between) (before ++ k ∷ ks, between)
-    (sheet-leads before k s.0 new.0) (rw (append_assoc before (k ∷ []) ks) at more)
-
-pub same-refl : (a : Bytes) → pointwise eqb a a ≡ true
-same-refl = nat_list_eq_equiv.refl
-
--- two names that are told apart
-apart : (a b : Bytes) → sameBytes a b ≡ false → pointwise eqb a b ≡ false
-apart a b h = go (pointwise eqb a b) refl
-  where
-    go : (t : Bool) → pointwise eqb a b ≡ t → t ≡ false
-    go true e = absurd (true≢false (sym (same-yes a b (same_text a b (sym e))) ∙ h))
-    go false e = refl
-
-none-of : (k : Kept) (before ks : List Kept) → Every (λ j. isKept j.name before ≡ false) ks → any (sameBytes k.name) (map nameOf ks) ≡ false
-    → Every (λ j. isKept j.name (before ++ k ∷ []) ≡ false) ks
-unfolding any
-none-of k before [] h e = tt
-none-of k before (j ∷ ks) h e =
-    let both = neither (sameBytes k.name j.name) _ e in
-    (none-in-both (λ i. pointwise eqb i.name j.name) before (k ∷ []) h.0 (rw (apart k.name j.name both.0) refl), none-of k before ks h.1 both.1)
-
-fresh : (before ks : List Kept) → Every (λ j. isKept j.name before ≡ false) ks → distinct (map nameOf ks) ≡ true → Fresh before ks
-unfolding distinct
-fresh before [] h d = tt
-fresh before (k ∷ ks) h d =
-    let both = and_parts (not (any (sameBytes k.name) (map nameOf ks))) _ d in
-    (h.0, fresh (before ++ k ∷ []) ks (none-of k before ks h.1 (not-true _ both.0)) both.1)
-
-nothing-kept : (ks : List Kept) → Every (λ j. isKept j.name [] ≡ false) ks
-nothing-kept [] = tt
-nothing-kept (k ∷ ks) = (refl, nothing-kept ks)
-
--- ══ The whole text ══
-
-last-leads : (ks : List Kept) → Leads (ks, between) (lastLine (length ks) ∷ []) (ks, ended)
-unfolding lineRead betweenRead
-last-leads ks = ((ks, ended), rw (same-refl (lastLine (length ks))) refl, refl)
-
--- a text without its last line feed, and cut into lines
-module _ (front : Bytes) where
-  at-end : length front ≡ length (front ++ 10 ∷ []) - 1
-  at-end = simp length-append (omega arith)
-
-  pub ends-line : endsLine (front ++ 10 ∷ []) ≡ true
-  ends-line = ap (pointwise eqb (10 ∷ [])) (drop_at front (10 ∷ []) (length (front ++ 10 ∷ []) - 1) at-end)
-
-  rest-read : restRead (front ++ 10 ∷ []) ≡ linesRead 2 ([], between) (slice_split lineFeed front)
-  unfolding restRead
-  rest-read =
-      rw (ends-line) (ap (λ (t : Bytes). linesRead 2 ([], between) (slice_split lineFeed t))
-      (take_at front (10 ∷ []) (length (front ++ 10 ∷ []) - 1) at-end))
+text-read : (ks : List Kept) → textRead (keptsText ks) ≡ linesRead 2 ([], between) (slice_split lineFeed (front ks))
+unfolding textRead keptsText
+text-read ks = ap restRead (sym (append_assoc (collect keptText ks) (lastLine (length ks)) (ascii "\n"))) ∙ rest-read (front ks)
 
 module _ (ks : List Kept) (h : allWritable ks ≡ true) where
-  abbrev last : Bytes
-  last = lastLine (length ks)
-
   parts : (list_all writable ks ≡ true) × (distinct (map nameOf ks) ≡ true)
   unfolding allWritable
   parts = and_parts (list_all writable ks) _ h
 
-  lines : slice_split lineFeed (collect keptText ks ++ last) ≡ collect sheetLines ks ++ last ∷ []
-  lines = sheets-split ks last (sheets ks parts.0) ∙ ap (collect sheetLines ks ++◌) (one-part lineFeed last (number-on-line 10 (length ks)))
+  written : Every Sheet ks
+  written = sheets ks parts.0
 
-  all-lead : Leads ([], between) (collect sheetLines ks ++ last ∷ []) (ks, ended)
-  all-lead = leads-on ([], between) (collect sheetLines ks) (last ∷ []) (ks, between) (ks, ended)
-      (sheets-lead [] ks (sheets ks parts.0) (fresh [] ks (nothing-kept ks) parts.1)) (last-leads ks)
+  lead : Leads ([], between) (collect sheetLines ks) (ks, between)
+  lead = sheets-lead [] ks written (fresh [] ks (nothing-kept ks) parts.1)
 
-  text-read : textRead (keptsText ks) ≡ Ok ks
-  unfolding textRead keptsText
-  text-read =
-      ap restRead (sym (append_assoc (collect keptText ks) last (ascii "\n"))) ∙ rest-read (collect keptText ks ++ last)
-      ∙ ap (linesRead 2 ([], between)) lines ∙ leads-all 2 ([], between) (collect sheetLines ks ++ last ∷ []) ks all-lead
+  lines : slice_split lineFeed (front ks) ≡ collect sheetLines ks ++ lastLine (length ks) ∷ []
+  lines =
+      sheets-split ks (lastLine (length ks)) written
+      ∙ ap (collect sheetLines ks ++◌) (one-part lineFeed (lastLine (length ks)) (number-on-line 10 (length ks)))
+
+  all-lead : Leads ([], between) (collect sheetLines ks ++ lastLine (length ks) ∷ []) (ks, ended)
+  all-lead = leads-on ([], between) (collect sheetLines ks) (lastLine (length ks) ∷ []) (ks, between) (ks, ended) lead (last-leads ks)
 
   pub read-back : certificateRead (keptsText ks) ≡ Ok ks
   unfolding certificateRead
-  read-back = ap (asWritten (keptsText ks)) text-read ∙ rw (same-refl (keptsText ks)) refl
+  read-back =
+      ap (asWritten (keptsText ks)) (text-read ks ∙ ap (linesRead 2 ([], between)) lines ∙ leads-all 2 ([], between) _ ks all-lead)
+      ∙ rw (same-refl (keptsText ks)) refl
+
+pub one-list : (ks js : List Kept) → allWritable ks ≡ true → allWritable js ≡ true → keptsText ks ≡ keptsText js → ks ≡ js
+one-list ks js h k e = let same : Ok ks ≡ Ok js = sym (read-back ks h) ∙ ap certificateRead e ∙ read-back js k in cc same
+
+-- ══ A name once more ══
+
+-- as many lines as line feeds
+lines-counted : (ks : List Kept) → Every Sheet ks → length (collect sheetLines ks) ≡ count_by lineFeed (collect keptText ks)
+lines-counted ks s =
+    let cut = ap length (ap (slice_split lineFeed) (sym (append-nil (collect keptText ks))) ∙ sheets-split ks [] s) in
+    let many = length-slice_split lineFeed (collect keptText ks) in
+    let parts = length-append (collect sheetLines ks) ([] ∷ []) in
+    omega (arith, cut, many, parts)
+
+module _ (ks : List Kept) (k : Kept) (js : List Kept) (h : allWritable ks ≡ true) (line : onOneLine k.name ≡ true) (kept : isKept k.name ks ≡ true) where
+  abbrev all : List Kept
+  all = ks ++ k ∷ js
+
+  -- what stands behind the sheet that is named once more
+  abbrev rest : Bytes
+  rest = collect keptText js ++ lastLine (length all)
+
+  cut : slice_split lineFeed (front all) ≡ collect sheetLines ks ++ (ascii "sheet " ++ k.name) ∷ slice_split lineFeed (belowName k rest)
+  unfolding collect
+  cut =
+      ap (slice_split lineFeed) (ap (λ (t : Bytes). t ++ lastLine (length all)) (collect-append keptText ks (k ∷ js))
+      ∙ append_assoc (collect keptText ks) (keptText k ++ collect keptText js) (lastLine (length all))
+      ∙ ap (collect keptText ks ++◌) (append_assoc (keptText k) (collect keptText js) (lastLine (length all))))
+      ∙ sheets-split ks (keptText k ++ rest) (written ks h)
+      ∙ ap (collect sheetLines ks ++◌) (name-split k rest (not-true _ line))
+
+  refused : lineRead (ks, between) (ascii "sheet " ++ k.name) ≡ None
+  unfolding lineRead betweenRead
+  refused = rw kept refl
+
+  pub named-twice : certificateRead (keptsText all) ≡ Err (Line (2 + count_by lineFeed (collect keptText ks)))
+  unfolding certificateRead
+  named-twice =
+      ap (asWritten (keptsText all)) (text-read all ∙ ap (linesRead 2 ([], between)) cut
+      ∙ leads-to-none 2 ([], between) (collect sheetLines ks) (ks, between) (ascii "sheet " ++ k.name) _ (lead ks h) refused)
+      ∙ ap (λ (n : ℕ). Err (Line (2 + n))) (lines-counted ks (written ks h))

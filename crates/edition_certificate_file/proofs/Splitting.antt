@@ -39,12 +39,16 @@ module _ {X : Type 0} (p : X → Bool) where
       let parts = neither (p x) (list_any p xs) h in
       slice_split-cons_no p x xs parts.0 ∙ ap (onto_first x) (one-part xs parts.1)
 
+-- no line feed stands in it
+abbrev pub Flat : Bytes → Type 0
+Flat line = list_any lineFeed line ≡ false
+
 -- a line with its line feed
 abbrev pub asLine : Bytes → Bytes
 asLine line = line ++ 10 ∷ []
 
 -- a line ends at its line feed
-pub first-line : (line rest : Bytes) → list_any lineFeed line ≡ false → slice_split lineFeed (line ++ 10 ∷ rest) ≡ line ∷ slice_split lineFeed rest
+pub first-line : (line rest : Bytes) → Flat line → slice_split lineFeed (line ++ 10 ∷ rest) ≡ line ∷ slice_split lineFeed rest
 first-line line rest h = split-both lineFeed line rest 10 refl ∙ ap (λ (l : List Bytes). l ++ slice_split lineFeed rest) (one-part lineFeed line h)
 
 -- lines, each with its line feed, are the text that was cut there

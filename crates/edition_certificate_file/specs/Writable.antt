@@ -1,5 +1,5 @@
 -- What is written so that it is read back: names on one line, digests of 32 bytes, lines that begin with two blanks, and no name twice.
-use Rattle.std.specs.Prelude.{Bool, not, ◌&&◌, ◌||◌, ℕ, ◌-◌, eqb, ltb, List, length, take, map}
+use Rattle.std.specs.Prelude.{Bool, not, ◌&&◌, ◌||◌, ℕ, ◌-◌, eqb, ltb, List, ◌++◌, length, take, map}
 use Rattle.std.specs.List.{starts_with, list_any, list_all, slice_split}
 use Rattle.rules.specs.Base.{isNil}
 use Rattle.rules.specs.Grammar.{ascii}
@@ -25,6 +25,10 @@ beginsBlank line = starts_with eqb line (ascii "  ")
 -- no line, or lines that each begin with two blanks and end with a line feed
 abbrev pub isIndented : Bytes → Bool
 isIndented text = isNil text || (endsLine text && list_all beginsBlank (linesIn text))
+
+-- a line of a sheet, with its blanks and its line feed
+abbrev pub indentedLine : Bytes → Bytes
+indentedLine line = ascii "  " ++ (line ++ ascii "\n")
 
 -- what is kept of a sheet
 unfoldable pub writable : Kept → Bool

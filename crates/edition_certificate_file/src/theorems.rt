@@ -1,9 +1,34 @@
-//! What a certificate's file is worth as a form: theorems, each the contract of a function that does nothing.
-ghost use Rattle.edition_certificate_file.specs.Theorems.{WrittenIsRead};
+//! What a certificate's file is worth as a form: theorems, each the contract of a function that does nothing, and what is read of what was written.
+//! `certificate_text` writes `keptsText`, and `read_certificate` reads what `certificateRead` says.
+ghost use Rattle.std.specs.Prelude.{◌≡◌, Ok, true, IfOk, map};
+ghost use Rattle.edition_certificate_file.specs.Files.{keptOf};
+ghost use Rattle.edition_certificate_file.specs.Reading.{keptIn};
+ghost use Rattle.edition_certificate_file.specs.Theorems.{OnlyWrittenIsRead, WrittenIsRead};
+ghost use Rattle.edition_certificate_file.specs.Writable.{allWritable};
 
-/// What is written of sheets is read back to the same sheets, where names, digests and lines are writable and no two sheets have one name
-/// (`allWritable`): `certificate_text` writes `keptsText`, and `read_certificate` reads what `certificateRead` says. A name that `written_name` made is
-/// writable, whatever bytes it was made of. Where two sheets have one name, the line with the second is told as one that may not stand there.
+use crate::{Entry, Fault, certificate_text, read_certificate};
+use std::alloc::{AllocError, Global};
+
+/// What is written of sheets is read back to the same sheets, where each has a name on one line, a digest of 32 bytes, and lines that begin with two blanks
+/// and end with a line feed, and no two have one name (`allWritable`); so a text is that of one list of sheets at the most. A name that `written_name` made
+/// stands on one line, whatever bytes it was made of, and lines that were put behind two blanks are such lines. Of two sheets with one name the line that
+/// names the second is refused, whatever stands behind it (`read-back`, `one-list`, `written-on-line`, `lines-indented`, `named-twice`).
 pub fn written_is_read_back()
     ensures { WrittenIsRead }
 {}
+
+/// What is read of a text is writable, and the text is what it is written as, byte by byte: no two sheets that are read have one name (`read-written`).
+pub fn only_written_is_read()
+    ensures { OnlyWrittenIsRead }
+{}
+
+/// Writes what is kept of sheets, and reads it again: the same, where it is writable.
+pub fn written_and_read(
+    alloc: Global,
+    entries: &[Entry],
+) -> Result<Result<Vec<Entry>, Fault>, AllocError>
+    ensures { IfOk result (λ r. allWritable (map keptOf entries.now) ≡ true → keptIn r ≡ Ok (map keptOf entries.now)) }
+{
+    let text = certificate_text(alloc, entries)?;
+    read_certificate(alloc, &text)
+}

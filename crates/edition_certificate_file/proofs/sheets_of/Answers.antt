@@ -29,8 +29,8 @@ pub loop-k-preserved : goal.loop-k-preserved
 loop-k-preserved c =
     let lines = road (goal.at.loop-k-preserved c).After-into_iter-k-iterator in
     let t = turn (YieldsList-turn lines c.loop-k.yielded _ c.loop-k.yielded_by _ _ _ c.in-Some.is c.next.ensures.steps) in
-    let read = goes t (reached c.loop-k.entries c.loop-k.stage) c.loop-k.invariant.2 (search rules) in
-    (search rules, search rules, rw (length_push c.loop-k.yielded (c.in-Some.k, c.in-Some.line)) read)
+    let entries = reached c.loop-k.entries c.loop-k.stage in
+    (search rules, search rules, rw (length_push c.loop-k.yielded (c.in-Some.k, c.in-Some.line)) (goes t entries c.loop-k.invariant.2 (search rules)))
 
 pub returns : goal.returns
 returns c =
