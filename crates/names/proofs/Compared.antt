@@ -1,14 +1,13 @@
 -- What a comparison of two names says of whether they are the same.
 use mathlib.Core.Path.{◌≡◌, refl, sym, ◌∙◌, ap}
-use mathlib.Core.Logic.{⊎_elim}
+use Rattle.std.specs.Prelude.{◌⊎◌}
+use Rattle.std.proofs.Common.{inl, inr}
 use mathlib.Core.Bool.{true, false}
 use mathlib.Core.List.{[], ◌∷◌}
 use Prim.Native.Nat.{Ordering, ℕ, compare}
 use Rattle.std.specs.Ordering.{nat_cmp, ordering_then}
 use Rattle.std.specs.Cmp.Lexicographic.{slice_cmp}
 use native.Mathlib.Omega.{arith}
-use denote.Enum.Declared as Declared
-use types.Run.{OneOf}
 use Rattle.rules.specs.Names.{Bytes, then, orderBytes, sameBytes}
 use Rattle.laws.specs.Order.{self}
 use Rattle.laws.specs.ByteOrder.{bytes_same, bytes-lawful}
@@ -16,7 +15,6 @@ use Rattle.laws.specs.NameTable.{same-yes, same-no}
 use Rattle.std.specs.declared.cmp.Ordering as std
 use Rattle.std.specs.declared.cmp.Ordering.TheVariants.{Less, Equal, Greater}
 use Rattle.names.specs.Told.{toldOrder, ordered}
-use Rattle.std.specs.contracts.cmp.Ordering as order
 
 module _ (n m : Bytes) where
   pub hit : toldOrder Equal ≡ orderBytes n m → sameBytes n m ≡ true
@@ -25,10 +23,11 @@ module _ (n m : Bytes) where
   unequal : (orderBytes n m ≡ Ordering.eq → ⊥) → sameBytes n m ≡ false
   unequal f = same-no n m (λ e. f (ap (orderBytes n) (sym e) ∙ self bytes-lawful n))
 
-  pub missed : (o : std.Ordering) → toldOrder o ≡ orderBytes n m → OneOf (0 ∷ 2 ∷ []) (Declared.tag_of order.the_type o) → sameBytes n m ≡ false
+  pub missed : (o : std.Ordering) → toldOrder o ≡ orderBytes n m → (o ≡ Less) ⊎ (o ≡ Greater) → sameBytes n m ≡ false
   missed Less e t = unequal (λ h. let z : ◌≡◌ {A = ℕ} 0 1 = cc in omega arith)
   missed Greater e t = unequal (λ h. let z : ◌≡◌ {A = ℕ} 0 1 = cc in omega arith)
-  missed Equal e t = ⊎_elim (λ h. absurd (omega arith)) (λ h. absurd (omega arith)) t
+  missed Equal e (inl h) = cc
+  missed Equal e (inr h) = cc
 
 -- std's order of slices is the order by bytes
 pub compared : (a b : Bytes) → toldOrder (slice_cmp nat_cmp a b) ≡ orderBytes a b

@@ -1,4 +1,4 @@
 pub mod Compared
-mod Asked
+pub mod Asked
 mod Determined
 mod Kept

@@ -12,6 +12,7 @@ use Rattle.rules.specs.Trees as tree
 use Rattle.rules.specs.Trees.{Ty, opened, dim, size, opens, openOfFactor}
 use Rattle.rules.specs.Values.{productValue}
 use Rattle.rules.specs.Writing.{writeProduct, writeTy}
+use Rattle.laws.specs.Contents.{any_append}
 use Rattle.laws.specs.GoodProducts.{good-product}
 use Rattle.products.specs.Told.{Tree, given, answer, productOf}
 use Rattle.products.specs.Held.{Sound, well-sound, law}
@@ -28,7 +29,6 @@ use Rattle.replace.specs.Well as well
 use Rattle.replace.specs.Well.{GoodProduct, Whole, LooksGood}
 use Rattle.replace.specs.InProducts.{done, taken, told-stop, fine-told, product-kept}
 use Rattle.replace.specs.Leaves.{Leaves, replaced}
-use Rattle.replace.proofs.Touches.{any-join}
 use Rattle.replace.proofs.Walks.{leaves, stops, behind, short-writes}
 
 -- ══ Types as products ══
@@ -114,7 +114,7 @@ module _ (pool table : List ℕ) where
 module _ (look : Look ℕ) {f : tree.Factor ℕ} {p q : Tree} (e : p ≡ f ∷ q) where
   first-or-rest : any (replaced look) (opens (dim p)) ≡ (any (replaced look) (openOfFactor f) || any (replaced look) (opens (dim q)))
   unfolding opens collect
-  first-or-rest = rw e (any-join (replaced look) (openOfFactor f) (opens (dim q)))
+  first-or-rest = rw e (any_append (replaced look) (openOfFactor f) (opens (dim q)))
 
   pub product-hit : any (replaced look) (openOfFactor f) ≡ true → any (replaced look) (opens (dim p)) ≡ true
   product-hit h = first-or-rest ∙ ap (λ (b : Bool). b || any (replaced look) (opens (dim q))) h

@@ -3,7 +3,6 @@ pub mod Dimensions
 pub mod Each
 pub mod Looks
 mod Nested
-pub mod Others
 mod Touches
 mod Unsaid
 pub mod Walks

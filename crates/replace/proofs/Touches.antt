@@ -8,6 +8,7 @@ use Rattle.rules.specs.Base.{any, is_none}
 use Rattle.rules.specs.Refusals.{toldOptionBy}
 use Rattle.rules.specs.Replacing.{Look}
 use Rattle.rules.specs.Trees.{Open, Ty, Con, opensCon, sizeCon}
+use Rattle.laws.specs.Contents.{any_append}
 use Rattle.laws.specs.Lists.{true≢false}
 use Rattle.laws.specs.Untouched.{Unbound}
 use Rattle.records.specs.Views.{viewAt}
@@ -15,15 +16,6 @@ use Rattle.records.specs.Holds.{HoldsCon}
 use Rattle.queries.specs.Scans.{opensView, opensFrom, opensIn}
 use Rattle.queries.specs.ScanLaws.{opens-step, con-opens}
 use Rattle.replace.specs.Leaves.{replaced}
-
-pub any-join : {A : Type 0} (p : A → Bool) (xs ys : List A) → any p (xs ++ ys) ≡ (any p xs || any p ys)
-unfolding any
-any-join p [] ys = refl
-any-join p (x ∷ xs) ys = go (p x) refl (any-join p xs ys)
-  where
-    go : (b : Bool) → p x ≡ b → any p (xs ++ ys) ≡ (any p xs || any p ys) → (p x || any p (xs ++ ys)) ≡ ((p x || any p xs) || any p ys)
-    go true i h = rw i refl
-    go false i h = rw i h
 
 module _ (look : Look ℕ) where
   pub changed : {m : Option (Ty ℕ)} {b : Bool} {T : Type 0} (f : T → Ty ℕ) (r : std.Option T) → toldOptionBy f r ≡ m → b ≡ is_some r → b
@@ -33,7 +25,7 @@ module _ (look : Look ℕ) where
 
   module _ (s : List ℕ) (i e : ℕ) (h : i < e) where
     join : any (replaced look) (opensIn s i e) ≡ (any (replaced look) (opensView (viewAt s i)) || any (replaced look) (opensIn s (i + 1) e))
-    join = ap (any (replaced look)) (opens-step s i e h) ∙ any-join (replaced look) (opensView (viewAt s i)) (opensIn s (i + 1) e)
+    join = ap (any (replaced look)) (opens-step s i e h) ∙ any_append (replaced look) (opensView (viewAt s i)) (opensIn s (i + 1) e)
 
     pub hit : any (replaced look) (opensView (viewAt s i)) ≡ true → any (replaced look) (opensIn s i e) ≡ true
     hit q = join ∙ ap (λ (b : Bool). b || any (replaced look) (opensIn s (i + 1) e)) q

@@ -17,6 +17,7 @@ use Rattle.rules.specs.Values.{ProductValue, productValue}
 use Rattle.rules.specs.WellFormed.{goodOpen, goodFactor, goodProduct, rising}
 use Rattle.laws.specs.GoodProducts.{multiply_good, divide-good, raise-good, goodAtom}
 use Rattle.laws.specs.KeepsGood as laws
+use Rattle.laws.specs.Lists.{clash, got≢refused, same-number, some≢none}
 use Rattle.laws.specs.Ranges.{stored-good}
 use Rattle.laws.specs.Value.{Gives, gives, next}
 use Rattle.exponents.specs.Answers.{expOf}
@@ -77,18 +78,18 @@ pub record Done (P : Product) (m : Got Tree) : Type 0 where
 pub done : (P : Product) (m : Got Tree) → got (given P) ≡ answer m → Done P m
 unfolding answer
 done P (got p) h = record { tree = p; is = refl; value = cc }
-done P (refused n) h = absurd (let y : ◌≡◌ {A = ℕ} 0 1 = cc in omega arith)
+done P (refused n) h = absurd (got≢refused h)
 
--- or a refusal, whatever would have followed
-pub ended : (n : ℕ) (m : Got Tree) → refused n ≡ answer m → (f : Tree → Got Tree) → refused n ≡ answer (m >>= f)
-unfolding answer
-ended n (refused k) h f = h
-ended n (got p) h f = absurd (let y : ◌≡◌ {A = ℕ} 0 1 = cc in omega arith)
-
+-- or a refusal
 pub told-stop : (n : ℕ) (m : Got Tree) → refused n ≡ answer m → m ≡ refused n
 unfolding answer
-told-stop n (got p) h = absurd (let y : ◌≡◌ {A = ℕ} 0 1 = cc in omega arith)
-told-stop n (refused k) h = let z : k ≡ n = cc in ap refused z
+told-stop n (got p) h = clash h
+told-stop n (refused k) h = ap refused (sym (same-number h))
+
+-- whatever would have followed
+pub ended : (n : ℕ) (m : Got Tree) → refused n ≡ answer m → (f : Tree → Got Tree) → refused n ≡ answer (m >>= f)
+unfolding answer
+ended n m h f = rw (told-stop n m h) refl
 
 -- a value made of a product
 pub fine-told : (P : Product) (p : Tree) → given P ≡ productValue p → got (given P) ≡ answer (got p)
@@ -205,7 +206,7 @@ module _ (pool table : List ℕ) where
   -- the type that an atom becomes is well formed
   pub atom-good : (look : Look ℕ) → LooksGood pool table look → (x : Factor ℕ) (t : Ty ℕ) → atomLooked look x ≡ some t → GoodTy pool table t
   atom-good look g (free o ↑ e) t k = g o t k
-  atom-good look g (base n ↑ e) t k = absurd (let z : ◌≡◌ {A = ℕ} 0 1 = cc in omega arith)
+  atom-good look g (base n ↑ e) t k = absurd (some≢none (sym k))
 
   module _ (f : code.Factor) (look : Look ℕ) where
     abbrev pub Looked : Option (Ty ℕ)

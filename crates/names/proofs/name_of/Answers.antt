@@ -1,30 +1,16 @@
 -- `names::name_of` meets its contract: a number that passed has a name, and a refusal gives the empty part.
 use mathlib.Core.Path.{◌≡◌, refl, subst}
-use mathlib.Core.Bool.{Bool, true, false}
 use mathlib.Core.List.{List, []}
 use Prim.Native.Nat.{ℕ, ◌<◌}
-use native.Mathlib.Omega.{arith}
-use borrow.Author.Tests.{ltb-true}
-use lib.Dec.{ltb}
 use lib.ListN.{get_or}
-use Rattle.rules.specs.Base.{Got, got, refused, ◌>>◌, need}
-use Rattle.rules.specs.Names.{Bytes, table_of, names_of, tableGiven, nameAsked, start_in, partFrom, partAsked}
-use Rattle.laws.specs.NameTable.{Good, good-laid, given-good, name-asked, start-in}
+use Rattle.rules.specs.Base.{Got, got, refused}
+use Rattle.rules.specs.Names.{Bytes, table_of, nameAsked, start_in, partFrom, partAsked}
+use Rattle.laws.specs.NameTable.{Good, good-laid, name-asked, start-in}
 use Rattle.names.specs.Told.{refusalOf, IsPart, heldPart}
+use Rattle.names.proofs.Asked.{passed-held}
 use Rattle.names.proofs.name_of.Goals as goal
 
 module _ (p t : List ℕ) (i : ℕ) where
-  held : got tt ≡ refusalOf (nameAsked p t i) → Good p t × (i < get_or t 0 0)
-  unfolding nameAsked table_of
-  held h = go (tableGiven p t) refl (ltb i (get_or t 0 0)) refl h
-    where
-      go : (a : Got (Unit {0})) → tableGiven p t ≡ a → (b : Bool) → ltb i (get_or t 0 0) ≡ b
-          → got tt ≡ refusalOf (a >> (need b 3 >> got (get_or (names_of (table_of p t)) i [])))
-          → Good p t × (i < get_or t 0 0)
-      go (refused k) e b f h = let z : ◌≡◌ {A = ℕ} 0 1 = cc in absurd (omega arith)
-      go (got u) e false f h = let z : ◌≡◌ {A = ℕ} 0 1 = cc in absurd (omega arith)
-      go (got u) e true f h = (given-good e, ltb-true i (get_or t 0 0) f)
-
   named : Good p t → i < get_or t 0 0 → heldPart p t i ≡ partAsked p t i
   unfolding partAsked partFrom
   named g h = rw (name-asked g i h, start-in (good-laid g) i h)
@@ -37,13 +23,13 @@ nothing start (refused k) h = refl
 pub name_at-requires : goal.name_at-requires
 name_at-requires c =
     let a = c.args in
-    let h = held a.pool.now a.table.now a.number (rw c.in-Ok.is at c.check_number.ensures) in
+    let h = passed-held a.pool.now a.table.now a.number (rw c.in-Ok.is at c.check_number.ensures) in
     record { laid = good-laid h.0; held = h.1 }
 
 pub returns-in-Ok : goal.returns-in-Ok
 returns-in-Ok c =
     let a = c.args in
-    let h = held a.pool.now a.table.now a.number (rw c.in-Ok.is at c.check_number.ensures) in
+    let h = passed-held a.pool.now a.table.now a.number (rw c.in-Ok.is at c.check_number.ensures) in
     subst (IsPart a.pool _) (named a.pool.now a.table.now a.number h.0 h.1) c.name_at.ensures
 
 pub returns-in-Err : goal.returns-in-Err

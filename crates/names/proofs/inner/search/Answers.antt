@@ -9,7 +9,6 @@ use Rattle.rules.specs.Names.{orderBytes, table_of, names_of, number_of}
 use Rattle.laws.specs.NameTable.{start_at, Laid, part_of, placed, names-step, names-end, search-hit, search-miss}
 use Rattle.names.specs.Told.{toldOrder}
 use Rattle.names.proofs.Compared.{hit, missed}
-use borrow.Enum.Refused.{opened}
 use Rattle.names.proofs.inner.search.Goals as goal
 
 -- the part that a turn looks at
@@ -47,7 +46,7 @@ loop-k-preserved c =
     rw (c.loop-k.invariant.0, add-one c.loop-k.k) at c.compare.ensures in
     let step = ap (number_of c.loop-k.k c.args.name.now) (sym (names-step c.requires.laid c.loop-k.k (omega arith))) ∙ c.loop-k.invariant.1 in (
       rw (add-one c.loop-k.k) refl,
-      rw (add-one c.loop-k.k) (sym (search-miss _ _ _ _ (missed _ _ c.compare.result (told) (opened c.in-Less.in-Less-own.keys2))) ∙ step),
+      rw (add-one c.loop-k.k) (sym (search-miss _ _ _ _ (missed _ _ c.compare.result (told) c.in-Less.is)) ∙ step),
     )
 
 pub returns : goal.returns

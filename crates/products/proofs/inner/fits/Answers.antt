@@ -1,29 +1,27 @@
 -- `products::inner::fits` meets its contract. The invariant: the factors before i are well formed, and `last` is the last of them.
 use mathlib.Core.Path.{◌≡◌, refl, sym, ◌∙◌, ap, subst}
 use mathlib.Core.Bool.{false}
-use mathlib.Core.List.{List, [], ◌∷◌}
-use mathlib.Core.Logic.{⊎_elim}
+use mathlib.Core.List.{List}
+use Rattle.std.specs.Prelude.{◌⊎◌}
+use Rattle.std.proofs.Common.{inl, inr}
 use Prim.Native.Nat.{Ordering}
 use Prim.Native.Nat.{ℕ, suc, ◌+◌, ◌-◌, ◌≤◌, ◌<◌}
 use native.Mathlib.Omega.{arith}
-use denote.Enum.Declared as Declared
-use types.Run.{OneOf}
 use lib.ListN.{length}
 use Rattle.rules.specs.Names.{table_of, numbersOf}
 use Rattle.rules.specs.Trees.{Names, orderAtom}
 use Rattle.std.specs.declared.cmp.Ordering as std
 use Rattle.std.specs.declared.cmp.Ordering.TheVariants.{Less, Equal, Greater}
 use Rattle.names.specs.Told.{toldOrder}
-use Rattle.std.specs.contracts.cmp.Ordering as order
 use Rattle.products.specs.Told.{atomAt, heldIn, factorAt, fine, isGot}
 use Rattle.products.specs.Kinds.{Fine, fine-facts, not-fine}
 use Rattle.products.specs.Held.{Seen, seen_none, seen_first, seen_more, seen-well, well-given, not_taken}
-use borrow.Enum.Refused.{opened}
 use Rattle.products.proofs.inner.fits.Goals as goal
 
 -- the order is not less
-later : (o : std.Ordering) → OneOf (1 ∷ 2 ∷ []) (Declared.tag_of order.the_type o) → toldOrder o ≡ Ordering.lt → ⊥
-later Less t h = ⊎_elim (λ e. omega arith) (λ e. omega arith) t
+later : (o : std.Ordering) → (o ≡ Equal) ⊎ (o ≡ Greater) → toldOrder o ≡ Ordering.lt → ⊥
+later Less (inl e) h = let z : ◌≡◌ {A = ℕ} 0 1 = cc in omega arith
+later Less (inr e) h = let z : ◌≡◌ {A = ℕ} 0 1 = cc in omega arith
 later Equal t h = let z : ◌≡◌ {A = ℕ} 0 1 = cc in omega arith
 later Greater t h = let z : ◌≡◌ {A = ℕ} 0 1 = cc in omega arith
 
@@ -71,7 +69,7 @@ returns-in-Equal c = let long : length c.args.p.now.factors ≡ 64 = omega arith
     let j : suc (c.loop-i.i - 1) < p.len = omega arith in
     sym (not_taken _ _ p (long) (λ w.
     let o = subst (λ (k : ℕ). orderAtom (names) (atomAt (factorAt p (c.loop-i.i - 1))) (atomAt (factorAt p k)) ≡ Ordering.lt) i (w.rises _ j) in
-    later c.order.result (opened c.in-Equal.in-Equal-own.keys2) (c.order.ensures ∙ rw c.loop-i.invariant.2 o)))
+    later c.order.result c.in-Equal.is (c.order.ensures ∙ rw c.loop-i.invariant.2 o)))
 
 pub loop-i-preserved : goal.loop-i-preserved
 loop-i-preserved c = let names : Names ℕ = numbersOf (table_of c.args.names.pool.now c.args.names.table.now) in

@@ -1,5 +1,5 @@
 -- `products::inner::rank` meets its contract: each arm is a case of the definition.
-use borrow.Author.Tests.{ne_eqb}
+use Rattle.std.proofs.Common.{arith, ne_eqb}
 use Rattle.products.specs.Told.{rank_of}
 use Rattle.products.proofs.inner.rank.Goals as goal
 
@@ -18,5 +18,5 @@ returns-in-12 c = rw c.in-12.is
 pub returns-in_default : goal.returns-in_default
 unfolding rank_of
 returns-in_default c =
-    let r = c.in_default.in_default-own.rest in
-    rw (ne_eqb _ 11 r.0.0.1, ne_eqb _ 15 r.0.1, ne_eqb _ 12 r.1)
+    let k = c.args.kind in
+    rw (ne_eqb k 11 (omega arith), ne_eqb k 15 (omega arith), ne_eqb k 12 (omega arith))

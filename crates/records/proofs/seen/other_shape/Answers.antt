@@ -2,7 +2,7 @@
 use mathlib.Core.Path.{ap, ◌∙◌}
 use mathlib.Core.List.{[], ◌∷◌}
 use Rattle.records.specs.Views.{plain}
-use borrow.Author.Tests.{ne_eqb}
+use Rattle.std.proofs.Common.{arith, ne_eqb}
 use Rattle.records.proofs.seen.other_shape.Goals as goal
 
 pub returns-in-9 : goal.returns-in-9
@@ -42,18 +42,19 @@ pub returns-in-26 : goal.returns-in-26
 returns-in-26 c = simp c.in-26.is (c.plain_one.ensures ∙ ap (plain (c.args.c ∷ [])) c.scheme_shape.ensures)
 
 pub returns-in_default : goal.returns-in_default
-returns-in_default c = let r = c.in_default.in_default-own.rest
-    in simp (
-      ne_eqb _ _ r.0.0.0.0.0.0.0.0.0.0.0.1,
-      ne_eqb _ _ r.0.0.0.0.0.0.0.0.0.0.1,
-      ne_eqb _ _ r.0.0.0.0.0.0.0.0.0.1,
-      ne_eqb _ _ r.0.0.0.0.0.0.0.0.1,
-      ne_eqb _ _ r.0.0.0.0.0.0.0.1,
-      ne_eqb _ _ r.0.0.0.0.0.0.1,
-      ne_eqb _ _ r.0.0.0.0.0.1,
-      ne_eqb _ _ r.0.0.0.0.1,
-      ne_eqb _ _ r.0.0.0.1,
-      ne_eqb _ _ r.0.0.1,
-      ne_eqb _ _ r.0.1,
-      ne_eqb _ _ r.1,
+returns-in_default c =
+    let k = c.args.kind in
+    simp (
+      ne_eqb k 9 (omega arith),
+      ne_eqb k 11 (omega arith),
+      ne_eqb k 12 (omega arith),
+      ne_eqb k 13 (omega arith),
+      ne_eqb k 15 (omega arith),
+      ne_eqb k 20 (omega arith),
+      ne_eqb k 21 (omega arith),
+      ne_eqb k 22 (omega arith),
+      ne_eqb k 23 (omega arith),
+      ne_eqb k 24 (omega arith),
+      ne_eqb k 25 (omega arith),
+      ne_eqb k 26 (omega arith),
     )

@@ -1,5 +1,5 @@
 -- `shape` meets its contract: by the kind.
-use borrow.Author.Tests.{ne_eqb}
+use Rattle.std.proofs.Common.{arith, ne_eqb}
 use Rattle.records.specs.Views.{view_of}
 use Rattle.records.proofs.seen.shape.Goals as goal
 
@@ -45,17 +45,18 @@ returns-in-10 c = simp c.in-10.is c.plain_three-in-10.ensures
 
 pub returns-in_default : goal.returns-in_default
 unfolding view_of
-returns-in_default c = let r = c.in_default.in_default-own.rest
-    in simp (
-      ne_eqb _ _ r.0.0.0.0.0.0.0.0.0.1,
-      ne_eqb _ _ r.0.0.0.0.0.0.0.0.1,
-      ne_eqb _ _ r.0.0.0.0.0.0.0.1,
-      ne_eqb _ _ r.0.0.0.0.0.0.1,
-      ne_eqb _ _ r.0.0.0.0.0.1,
-      ne_eqb _ _ r.0.0.0.0.1,
-      ne_eqb _ _ r.0.0.0.1,
-      ne_eqb _ _ r.0.0.1,
-      ne_eqb _ _ r.0.1,
-      ne_eqb _ _ r.1,
+returns-in_default c =
+    let k = c.args.kind in
+    simp (
+      ne_eqb k 1 (omega arith),
+      ne_eqb k 2 (omega arith),
+      ne_eqb k 14 (omega arith),
+      ne_eqb k 3 (omega arith),
+      ne_eqb k 4 (omega arith),
+      ne_eqb k 5 (omega arith),
+      ne_eqb k 6 (omega arith),
+      ne_eqb k 7 (omega arith),
+      ne_eqb k 8 (omega arith),
+      ne_eqb k 10 (omega arith),
     )
     c.other_shape.ensures

@@ -39,7 +39,7 @@ invariant_of-result-in-HasField c =
     record {
       near = c.args.self.near;
       tree = right-side _ _ _ _
-          (asked-as _ _ c.args.self.tree (sym c.view_at.ensures ∙ c.in-HasField.is)) c.end-arg-in-HasField-1.given.1.0 c.end-at-in-HasField.ensures;
+          (asked-as _ _ c.args.self.tree (sym c.view_at.ensures ∙ c.in-HasField.is)) (_, search) c.end-at-in-HasField.ensures;
     }
 
 pub unreachable-requires-in_default : goal.unreachable-requires-in_default
@@ -52,11 +52,11 @@ unreachable-requires c = scalar-some _ _ _ (asked-as _ _ c.args.self.tree (sym c
 
 pub returns-in-Equal : goal.returns-in-Equal
 returns-in-Equal c = both-sides _ _ _ _ (asked-as _ _ c.args.self.tree (sym c.view_at.ensures ∙ c.in-Equal.is)) (_, search) c.end-at.ensures
-    (_, search) c.result-in-Equal-1.given.1.0
+    (_, search) (_, search)
 
 pub returns-in-IsDim : goal.returns-in-IsDim
 returns-in-IsDim c = let x = asked-as _ _ c.args.self.tree (sym c.view_at.ensures ∙ c.in-IsDim.is) in
-    ap isDim (only _ _ _ _ c.result-in-IsDim-1.given.1.0.1 x.0.1) ∙ sym x.1
+    ap isDim (only _ _ _ _ (search) x.0.1) ∙ sym x.1
 
 pub returns-in-Dimension : goal.returns-in-Dimension
 returns-in-Dimension c = scalar-is _ _ _ (asked-as _ _ c.args.self.tree (sym c.view_at.ensures ∙ c.in-IsScalar.is)) (_, search)
@@ -65,4 +65,4 @@ returns-in-Dimension c = scalar-is _ _ _ (asked-as _ _ c.args.self.tree (sym c.v
 pub returns-in-HasField : goal.returns-in-HasField
 returns-in-HasField c =
     let x = asked-as _ _ c.args.self.tree (sym c.view_at.ensures ∙ c.in-HasField.is) in
-    both-sides _ _ _ _ x c.end-arg-in-HasField-1.given.1.0 c.end-at-in-HasField.ensures c.result-in-HasField-1.given.1.0 c.result-in-HasField-2-1.given.1.0
+    both-sides _ _ _ _ x (_, search) c.end-at-in-HasField.ensures (_, search) (_, search)

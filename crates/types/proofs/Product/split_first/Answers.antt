@@ -16,4 +16,4 @@ invariant_of-rest c = record {
 }
 
 pub returns : goal.returns
-returns c = factors-are _ _ _ c.args.self.factors c.if-self-eq0.false (sym c.view_at.ensures ∙ c.in-Factor.is) c.result-1.given.1.1.0
+returns c = factors-are _ _ _ c.args.self.factors c.if-self-eq0.false (sym c.view_at.ensures ∙ c.in-Factor.is) (_, search)

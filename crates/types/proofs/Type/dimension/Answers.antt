@@ -14,7 +14,7 @@ invariant_of-result c = record {
 }
 
 pub returns-in-Dim : goal.returns-in-Dim
-returns-in-Dim c = ap productOf (dim-is _ _ c.args.self.tree (sym c.view_at.ensures ∙ c.in-Dim.is) c.result-1.given.1.1.0)
+returns-in-Dim c = ap productOf (dim-is _ _ c.args.self.tree (sym c.view_at.ensures ∙ c.in-Dim.is) (_, search))
 
 pub returns-in_default : goal.returns-in_default
 returns-in_default c = no-dimension _ _ c.args.self.tree (λ n e. c.in_default.not-Dim n (c.view_at.ensures ∙ e))

@@ -37,13 +37,13 @@ pub returns-in-Basic : goal.returns-in-Basic
 returns-in-Basic c = sym (seen-as _ _ c.args.self.tree (sym c.view_at.ensures ∙ c.in-Basic.is))
 
 pub returns-in-Dim : goal.returns-in-Dim
-returns-in-Dim c = dim-is _ _ c.args.self.tree (sym c.view_at.ensures ∙ c.in-Dim.is) c.result-1.given.1.1.0
+returns-in-Dim c = dim-is _ _ c.args.self.tree (sym c.view_at.ensures ∙ c.in-Dim.is) (_, search)
 
 pub returns-in-Function : goal.returns-in-Function
-returns-in-Function c = function-begins _ _ c.args.self.tree (sym c.view_at.ensures ∙ c.in-Function.is) c.result-in-Function-1.given.1.0
+returns-in-Function c = function-begins _ _ c.args.self.tree (sym c.view_at.ensures ∙ c.in-Function.is) (_, search)
 
 pub returns-in-Struct : goal.returns-in-Struct
-returns-in-Struct c = struct-begins _ _ c.args.self.tree (sym c.view_at.ensures ∙ c.in-Struct.is) c.result-in-Struct-1.given.1.0
+returns-in-Struct c = struct-begins _ _ c.args.self.tree (sym c.view_at.ensures ∙ c.in-Struct.is) (_, search)
 
 pub returns-in-List : goal.returns-in-List
-returns-in-List c = list-is _ _ c.args.self.tree (sym c.view_at.ensures ∙ c.in-List.is) c.result-in-List-1.given.1.0
+returns-in-List c = list-is _ _ c.args.self.tree (sym c.view_at.ensures ∙ c.in-List.is) (_, search)

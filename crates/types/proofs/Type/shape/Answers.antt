@@ -68,16 +68,16 @@ pub returns-in-Basic : goal.returns-in-Basic
 returns-in-Basic c = sym (seen-as _ _ c.args.self.tree (sym c.view_at.ensures ∙ c.in-Basic.is))
 
 pub returns-in-Dim : goal.returns-in-Dim
-returns-in-Dim c = dim-is _ _ c.args.self.tree (sym c.view_at.ensures ∙ c.in-Dim.is) c.result-1.given.1.1.0
+returns-in-Dim c = dim-is _ _ c.args.self.tree (sym c.view_at.ensures ∙ c.in-Dim.is) (_, search)
 
 pub returns-in-Function : goal.returns-in-Function
 returns-in-Function c = function-is _ _ c.args.self.tree
-    (sym c.view_at.ensures ∙ c.in-Function.is) (_, search) c.end-at.ensures (_, search) c.result-in-Function-2-1.given.1.0
+    (sym c.view_at.ensures ∙ c.in-Function.is) (_, search) c.end-at.ensures (_, search) (_, search)
 
 pub returns-in-Struct : goal.returns-in-Struct
 returns-in-Struct c = struct-is _ _ c.args.self.tree
     (sym c.view_at.ensures ∙ c.in-Struct.is) (_, search) c.end-at-in-Struct.ensures (_, search)
-    c.result-in-Struct-2-1.given.1.0
+    (_, search)
 
 pub returns-in-List : goal.returns-in-List
 returns-in-List c = list-is _ _ c.args.self.tree (sym c.view_at.ensures ∙ c.in-List.is) (_, search)

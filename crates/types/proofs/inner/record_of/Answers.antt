@@ -1,4 +1,5 @@
 -- `inner::record_of` meets its contract.
+use Rattle.std.proofs.Common.{arith}
 use Rattle.rules.specs.Values.{atomIn}
 use Rattle.rules.specs.Writing.{writeFactor}
 use Rattle.types.proofs.Factors.{last-kind}
@@ -19,5 +20,4 @@ returns-in-15 c = rw (c.in-15.is, c.num_word-num.ensures)
 pub returns-in_default : goal.returns-in_default
 unfolding writeFactor atomIn
 returns-in_default c =
-    let r = c.in_default.in_default-own.rest in
-    rw (last-kind c.requires r.0.0.1 r.0.1 r.1, c.num_word-num.ensures)
+    rw (last-kind c.requires (omega arith) (omega arith) (omega arith), c.num_word-num.ensures)

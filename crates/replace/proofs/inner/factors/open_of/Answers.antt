@@ -1,4 +1,5 @@
 -- `open_of` meets its contract.
+use Rattle.std.proofs.Common.{arith}
 use Rattle.replace.specs.Opened.{open-var, open-par, open-quant, open_none}
 use Rattle.replace.proofs.inner.factors.open_of.Goals as goal
 
@@ -12,4 +13,4 @@ pub returns-in-15 : goal.returns-in-15
 returns-in-15 c = open-quant c.args.f c.in-15.is
 
 pub returns-in_default : goal.returns-in_default
-returns-in_default c = open_none c.args.f c.in_default.in_default-own.rest.0.0.1 c.in_default.in_default-own.rest.0.1 c.in_default.in_default-own.rest.1
+returns-in_default c = open_none c.args.f (omega arith) (omega arith) (omega arith)

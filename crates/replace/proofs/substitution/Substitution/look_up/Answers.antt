@@ -20,4 +20,4 @@ invariant_of-result c =
 pub returns : goal.returns
 returns c =
     let s = c.args.self in
-    some-said s.types.now (s.lent.0 (openOf c.args.o)) (rw c.word_of-w.ensures (s.lent.1.tabled.says (openOf c.args.o))) c.if-w-eq0.false c.result-2-1.given.1.0
+    some-said s.types.now (s.lent.0 (openOf c.args.o)) (rw c.word_of-w.ensures (s.lent.1.tabled.says (openOf c.args.o))) c.if-w-eq0.false (_, search)
