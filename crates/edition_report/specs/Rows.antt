@@ -9,12 +9,10 @@ use Rattle.rules.specs.Trees.{var, Ty, Con, equal, isDim, is_scalar, hasField, B
 use Rattle.records.specs.ByView.{con-in, binding-in}
 use Rattle.records.specs.Good.{Chain}
 use Rattle.records.specs.Holds.{Holds, HoldsBinding, HoldsBound, HoldsBounds, HoldsCon, con-long, binding-long}
-use Rattle.records.specs.Parsed.{only}
 use Rattle.records.specs.Places.{seen-in}
-use Rattle.types.specs.Once.{ATree}
-use Rattle.types.specs.Sets.{HoldsCons, IsCons}
-use Rattle.types.specs.Runs.{HoldsEach}
 use Rattle.types.specs.Binds.{HoldsBinds}
+use Rattle.types.specs.Runs.{HoldsEach}
+use Rattle.types.specs.Sets.{HoldsCons, IsCons, con-some}
 use Rattle.solve_finish.specs.Told.{IsSolved}
 use Rattle.records.specs.Views.{viewAt, longAt}
 use Rattle.records.specs.declared.Open as opens
@@ -51,17 +49,6 @@ module _ (names : ℕ → Bytes) where
   unfolding collect
   left-text [] = refl
   left-text (c ∷ cs) = ap (λ (t : Bytes). remainingLine names c ++ t) (left-text cs)
-
-pub con-some : (c : Con ℕ) → 1 ≤ sizeCon c
-unfolding sizeCon
-con-some (equal l r) = omega arith
-con-some (isDim t) = omega arith
-con-some (is_scalar p) = omega arith
-con-some (hasField x l r) = omega arith
-
--- a place holds one type
-pub type-is : (s : List ℕ) (at : ℕ) (x : ATree s at) (t : Ty ℕ) → Holds s t at → x.0 ≡ t
-type-is s at x t h = only s x.0 t at x.1 h
 
 module _ (s : List ℕ) where
   -- a row from a place up to another
