@@ -1,5 +1,5 @@
 -- The entries by variable.
-use Rattle.std.specs.Prelude.{◌≡◌, not, List, ℕ, ◌≤◌, length}
+use Rattle.std.specs.Prelude.{◌≡◌, not, List, ◌≤◌, length}
 use Rattle.rules.specs.Calls.{Entry, differ}
 use Rattle.judge_entries.specs.Entries.{variablesOf, slots_of}
 use Rattle.judge_entries.specs.declared.inner.Slots.{Slots}

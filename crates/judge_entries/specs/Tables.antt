@@ -8,7 +8,6 @@ use Rattle.rules.specs.Names.{table_of}
 use Rattle.rules.specs.Replacing.{find}
 use Rattle.rules.specs.Calls as rules
 use Rattle.rules.specs.Calls.{entriesGiven}
-use Rattle.laws.specs.NameTable.{Good}
 use Rattle.records.specs.Holds.{Holds}
 use Rattle.records.specs.Found.{Words32}
 use Rattle.records.specs.Good.{numbers, goodTy, GoodTy}

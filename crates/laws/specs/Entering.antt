@@ -54,7 +54,7 @@ use Rattle.rules.specs.Names.{
 use Rattle.rules.specs.declared.Was.{Was}
 use Rattle.rules.specs.declared.Was.TheVariants.{New, Known}
 use Rattle.laws.specs.Checks.{need-passed, first-passed, next-passed}
-use Rattle.laws.specs.Lists.{and_left, and_right}
+use Rattle.laws.specs.Lists.{and_left, and_right, got≢refused, same-number}
 use Rattle.laws.specs.NameTable.{
   endsOf,
   start_at,
@@ -285,10 +285,10 @@ pub data Case (pool table : List ℕ) (name : Bytes) : Type 0 where
 module _ (pool table : List ℕ) (name : Bytes) where
   -- the checks before the search never refuse with 3
   not_three : (a b c : Bool) (k : ℕ) → ((need a 10 >> need b 1) >> need c 2) ≡ refused k → k ≡ 3 → ⊥
-  not_three false b c k h e = let z : k ≡ 10 = cc in omega arith
-  not_three true false c k h e = let z : k ≡ 1 = cc in omega arith
-  not_three true true false k h e = let z : k ≡ 2 = cc in omega arith
-  not_three true true true k h e = let z : ◌≡◌ {A = ℕ} 0 1 = cc in omega arith
+  not_three false b c k h e = omega (arith, same-number h)
+  not_three true false c k h e = omega (arith, same-number h)
+  not_three true true false k h e = omega (arith, same-number h)
+  not_three true true true k h e = got≢refused h
 
   pub checks-refuse : (k : ℕ) → enterChecks pool table name ≡ refused k → k ≡ 3 → ⊥
   unfolding enterChecks tableGiven lentTable

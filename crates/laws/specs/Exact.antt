@@ -32,6 +32,7 @@ use Rattle.rules.specs.Trees.{
 }
 use Rattle.rules.specs.Products.{inverse, single, mergeOne, merge, multiply, divide, raise}
 use Rattle.rules.specs.Replacing.{Look, asProduct, replaceFactors, replaceProduct, replaceDim, replaceTy, replaceTys, replaceFields}
+use Rattle.laws.specs.Lists.{same-number}
 
 -- the refusals that exact arithmetic doesn't know
 abbrev pub OfLimits : ℕ → Type 0
@@ -47,14 +48,14 @@ same m = record { gives = λ a e. e; refuses = λ k e. inl e }
 
 allowed : {A : Type 0} (b : Bool) (k : ℕ) (a : A) → OfLimits k → Below (allow b k a) (got a)
 allowed true k a h = same (got a)
-allowed false k a h = record { gives = λ b e. cc; refuses = λ j e. let q : k ≡ j = cc in inr (rw q at h) }
+allowed false k a h = record { gives = λ b e. cc; refuses = λ j e. inr (rw (same-number e) at h) }
 
 -- step after step
 pub next : {A B : Type 0} {m n : Got A} {f g : A → Got B} → Below m n → ((a : A) → Below (f a) (g a)) → Below (m >>= f) (n >>= g)
 next {m} {n} {f} {g} h s = go m refl
   where
     go : (m' : Got _) → m ≡ m' → Below (m' >>= f) (n >>= g)
-    go (refused k) e = record { gives = λ b e. cc; refuses = λ j i. let q : k ≡ j = cc in too j (h.refuses j (e ∙ ap refused q)) }
+    go (refused k) e = record { gives = λ b e. cc; refuses = λ j i. too j (h.refuses j (e ∙ ap refused (same-number i))) }
       where
         too : (j : ℕ) → (n ≡ refused j) ⊎ OfLimits j → ((n >>= g) ≡ refused j) ⊎ OfLimits j
         too j (inl i) = inl (rw i)

@@ -2,7 +2,7 @@
 use Rattle.std.specs.Prelude.{◌≡◌, refl, ℕ}
 use Rattle.std.proofs.Common.{◌∙◌, ap, subst}
 use Rattle.rules.specs.Base.{Got, got, refused, ◌>>=◌}
-use Rattle.laws.specs.Lists.{got≢refused}
+use Rattle.laws.specs.Lists.{got≢refused, same-number}
 
 -- where it refuses, it is with a number of P
 pub record Refuses {A : Type 0} (P : ℕ → Type 0) (m : Got A) : Type 0 where
@@ -12,7 +12,7 @@ pub given : {A : Type 0} {P : ℕ → Type 0} {a : A} → Refuses P (got a)
 given = record { only = λ n e. absurd (got≢refused e) }
 
 pub refusing : {A : Type 0} {P : ℕ → Type 0} {n : ℕ} → P n → Refuses {A = A} P (refused n)
-refusing {P = P} {n = n} p = record { only = λ j e. let z : n ≡ j = cc in subst P z p }
+refusing {P = P} {n = n} p = record { only = λ j e. subst P (same-number e) p }
 
 pub next : {A B : Type 0} {P : ℕ → Type 0} (m : Got A) (f : A → Got B) → Refuses P m → ((a : A) → Refuses P (f a)) → Refuses P (m >>= f)
 next (got a) f h k = k a
@@ -23,5 +23,5 @@ pub onward : {A B : Type 0} {P : ℕ → Type 0} {m : Got A} {f : A → Got B} �
 onward {P} {m} {f} h k = go m refl
   where
     go : (m' : Got _) → m ≡ m' → Refuses P (m' >>= f)
-    go (refused n) e = record { only = λ j i. let q : n ≡ j = cc in h.only j (e ∙ ap refused q) }
+    go (refused n) e = record { only = λ j i. h.only j (e ∙ ap refused (same-number i)) }
     go (got a) e = k a e

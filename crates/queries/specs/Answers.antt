@@ -24,6 +24,7 @@ use Rattle.rules.specs.Calls.{
 }
 use Rattle.laws.specs.NameTable.{Good, good-laid}
 use Rattle.laws.specs.Checks.{passed, stopped}
+use Rattle.laws.specs.Lists.{same-number}
 use Rattle.laws.specs.ReadLists.{Every}
 use Rattle.laws.specs.KnownNames.{Known, ty-known}
 use Rattle.records.specs.Found.{Words32}
@@ -55,8 +56,7 @@ unfolding listing resultAfter
 lent-stopped (got u) r a m f n result e g h = rw (e, stopped a m f n h)
 lent-stopped (refused j) r a m f n result e g h =
     let q : ◌≡◌ {A = Got (Unit {0})} (refused j) (refused n) = ap (λ (x : Got (Unit {0})). x >> m >> got (tt {0})) (sym (g j refl)) ∙ h in
-    let i : j ≡ n = cc in
-    rw i
+    rw (same-number q)
 
 -- a name among those of the kind that is asked for
 names-said : (pool table : List ℕ) (x : ℕ) (p : Bool) (t : Ty ℕ) → any (eqb x) (choose (kind_of p) (opens t)) ≡ containsName (numbers pool table) p x t

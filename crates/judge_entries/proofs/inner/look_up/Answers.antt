@@ -1,1 +1,0 @@
-use Rattle.judge_entries.proofs.inner.look_up.Goals as goal
