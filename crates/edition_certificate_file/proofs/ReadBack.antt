@@ -1,5 +1,27 @@
 -- What is written is read back: the whole text.
-use Rattle.std.proofs.Common.{◌≡◌, refl, sym, ap, ◌∙◌, ◌++◌, ◌+◌, true, ℕ, List, [], ◌∷◌, length, map, arith, append-nil, append_assoc, length-append, Ok, Err, None}
+use Rattle.std.proofs.Common.{
+  ◌≡◌,
+  refl,
+  sym,
+  ap,
+  ◌∙◌,
+  ◌++◌,
+  ◌+◌,
+  true,
+  ℕ,
+  List,
+  [],
+  ◌∷◌,
+  length,
+  map,
+  arith,
+  append-nil,
+  append_assoc,
+  length-append,
+  Ok,
+  Err,
+  None,
+}
 use Rattle.std.specs.List.{list_all, slice_split, count_by}
 use Rattle.std.proofs.lemmas.List.Splits.{length-slice_split}
 use Rattle.std.proofs.lemmas.Bool.{and_parts, not-true}
@@ -11,7 +33,19 @@ use Rattle.laws.specs.Lists.{Every}
 use Rattle.laws.specs.Contents.{collect-append}
 use Rattle.edition_certificate_file.specs.declared.Fault.TheVariants.{Line}
 use Rattle.edition_certificate_file.specs.Files.{Kept, lastLine, keptText, keptsText}
-use Rattle.edition_certificate_file.specs.Reading.{between, ended, betweenRead, lineRead, linesRead, restRead, textRead, asWritten, certificateRead, isKept, lineFeed}
+use Rattle.edition_certificate_file.specs.Reading.{
+  between,
+  ended,
+  betweenRead,
+  lineRead,
+  linesRead,
+  restRead,
+  textRead,
+  asWritten,
+  certificateRead,
+  isKept,
+  lineFeed,
+}
 use Rattle.edition_certificate_file.specs.Writable.{onOneLine, nameOf, writable, allWritable}
 use Rattle.edition_certificate_file.proofs.Splitting.{one-part}
 use Rattle.edition_certificate_file.proofs.Indented.{at-end, ends-line}

@@ -1,5 +1,37 @@
 -- What is read is writable: of each line, that what it leads to is.
-use Rattle.std.proofs.Common.{◌≡◌, refl, sym, ap, ◌∙◌, ◌++◌, ◌+◌, ◌-◌, Bool, true, false, not, if◌then◌else◌, ℕ, List, [], ◌∷◌, zero, suc, length, take, drop, map, eqb, ltb, arith, eq-eqb, lt-ltb, Result, Ok, Err, Option, Some, None}
+use Rattle.std.proofs.Common.{
+  ◌≡◌,
+  refl,
+  sym,
+  ap,
+  ◌∙◌,
+  ◌++◌,
+  ◌+◌,
+  ◌-◌,
+  Bool,
+  true,
+  false,
+  not,
+  if◌then◌else◌,
+  ℕ,
+  List,
+  [],
+  ◌∷◌,
+  zero,
+  suc,
+  length,
+  take,
+  drop,
+  map,
+  eqb,
+  arith,
+  Result,
+  Ok,
+  Err,
+  Option,
+  Some,
+  None,
+}
 use Rattle.std.specs.Prelude.{option_map}
 use Rattle.std.specs.List.{list_any, list_all, slice_split, onto_first, starts_with}
 use Rattle.std.specs.Char.{is_ascii_uppercase}
@@ -9,7 +41,7 @@ use Rattle.std.proofs.lemmas.List.{map-append}
 use Rattle.std.proofs.lemmas.List.Splits.{slice_split-cons_yes, slice_split-cons_no}
 use Rattle.std.specs.Cmp.Lexicographic.{same_text}
 use lib.Pointwise.{pointwise}
-use Rattle.hex.specs.Hex.{decode_sized, IsBytes}
+use Rattle.hex.specs.Hex.{decode_sized}
 use Rattle.hex.specs.declared.error.FromHexError.{FromHexError}
 use Rattle.hex.proofs.HexLemmas.{decode_sized-ok, decode_sized-twice, decode_of-ok}
 use Rattle.rules.specs.Base.{any}
@@ -49,6 +81,7 @@ use Rattle.edition_certificate_file.specs.Theorems.{Written}
 use Rattle.edition_certificate_file.specs.Writable.{onOneLine, isDigest, linesIn, beginsBlank, nameOf, writable, allWritable}
 use Rattle.edition_certificate_file.proofs.Splitting.{Flat, neither, asLine}
 use Rattle.edition_certificate_file.proofs.Indented.{more-indented}
+use Rattle.edition_certificate_file.proofs.SheetLines.{is-digest}
 use Rattle.edition_certificate_file.proofs.Leads.{same-refl}
 
 -- ══ What holds at each place ══
@@ -103,16 +136,12 @@ abbrev Digests : Option (List ℕ) → Type 0
 Digests None = Unit {0}
 Digests (Some digest) = isDigest digest ≡ true
 
-byte-tests : (digest : List ℕ) → IsBytes digest → list_all (λ b. ltb b 256) digest ≡ true
-byte-tests [] h = refl
-byte-tests (b ∷ digest) h = rw (lt-ltb b 256 (h 0), byte-tests digest (λ i. h (suc i))) refl
-
 decoded-good : (text : Bytes) (r : Result (List ℕ) FromHexError) → decode_sized text 32 ≡ r → Digests (decoded r)
 decoded-good text (Err f) e = tt
 decoded-good text (Ok digest) e =
     let long = decode_sized-ok text 32 digest e in
     let parts = decode_of-ok text digest (sym (decode_sized-twice text 32 long) ∙ e) in
-    rw (eq-eqb (length digest) 32 (omega (arith, parts.2, long)), byte-tests digest parts.3) refl
+    is-digest digest (omega (arith, parts.2, long)) parts.3
 
 digest-good : (line : Bytes) → Digests (digestIn line)
 unfolding digestIn

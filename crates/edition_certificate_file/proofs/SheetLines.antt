@@ -1,5 +1,28 @@
 -- The lines of a sheet as it is written: what they are, and that the text is cut into them.
-use Rattle.std.proofs.Common.{◌≡◌, refl, sym, ap, ◌∙◌, ◌++◌, true, ℕ, zero, suc, ltb, eqb, List, [], ◌∷◌, length, arith, append_assoc, eqb-true, ltb-true}
+use Rattle.std.proofs.Common.{
+  ◌≡◌,
+  refl,
+  sym,
+  ap,
+  ◌∙◌,
+  ◌++◌,
+  true,
+  ℕ,
+  zero,
+  suc,
+  ltb,
+  eqb,
+  List,
+  [],
+  ◌∷◌,
+  length,
+  arith,
+  append_assoc,
+  eqb-true,
+  ltb-true,
+  eq-eqb,
+  lt-ltb,
+}
 use Rattle.std.specs.List.{list_all, slice_split}
 use Rattle.std.proofs.lemmas.Bool.{and_parts, not-true}
 use Rattle.hex.specs.Hex.{encode_lower, IsBytes}
@@ -9,7 +32,7 @@ use Rattle.rules.specs.Names.{Bytes}
 use Rattle.laws.specs.Lists.{Every}
 use Rattle.edition_certificate_file.specs.Files.{Kept, keptText}
 use Rattle.edition_certificate_file.specs.Reading.{lineFeed}
-use Rattle.edition_certificate_file.specs.Writable.{onOneLine, isDigest, writable}
+use Rattle.edition_certificate_file.specs.Writable.{onOneLine, isDigest, isIndented, writable}
 use Rattle.edition_certificate_file.proofs.Splitting.{Flat, first-line}
 use Rattle.edition_certificate_file.proofs.Indented.{Indented, ownLines, indented}
 use Rattle.edition_certificate_file.proofs.OneLine.{digits-on-line}
@@ -18,6 +41,17 @@ all-bytes : (digest : List ℕ) → list_all (λ b. ltb b 256) digest ≡ true �
 all-bytes [] h i = omega arith
 all-bytes (b ∷ digest) h zero = ltb-true b 256 (and_parts (ltb b 256) _ h).0
 all-bytes (b ∷ digest) h (suc i) = all-bytes digest (and_parts (ltb b 256) _ h).1 i
+
+byte-tests : (digest : List ℕ) → IsBytes digest → list_all (λ b. ltb b 256) digest ≡ true
+byte-tests [] h = refl
+byte-tests (b ∷ digest) h = rw (lt-ltb b 256 (h 0), byte-tests digest (λ i. h (suc i))) refl
+
+pub is-digest : (digest : List ℕ) → length digest ≡ 32 → IsBytes digest → isDigest digest ≡ true
+is-digest digest many bytes = rw (eq-eqb (length digest) 32 many, byte-tests digest bytes) refl
+
+pub kept-writable : (k : Kept) → length k.digest ≡ 32 → IsBytes k.digest → onOneLine k.name ≡ true → isIndented k.lines ≡ true → writable k ≡ true
+unfolding writable
+kept-writable k many bytes name lines = rw (name, is-digest k.digest many bytes, lines) refl
 
 -- what can be written of a sheet
 pub record Sheet (k : Kept) : Type 0 where

@@ -1,10 +1,11 @@
 //! What a certificate's file is worth as a form: theorems, each the contract of a function that does nothing, and what is read of what was written.
 //! `certificate_text` writes `keptsText`, and `read_certificate` reads what `certificateRead` says.
 ghost use Rattle.std.specs.Prelude.{◌≡◌, Ok, true, IfOk, map};
+ghost use Rattle.hex.specs.Hex.{IsBytes};
 ghost use Rattle.edition_certificate_file.specs.Files.{keptOf};
 ghost use Rattle.edition_certificate_file.specs.Reading.{keptIn};
 ghost use Rattle.edition_certificate_file.specs.Theorems.{OnlyWrittenIsRead, WrittenIsRead};
-ghost use Rattle.edition_certificate_file.specs.Writable.{allWritable};
+ghost use Rattle.edition_certificate_file.specs.Writable.{allWritable, isIndented, onOneLine, writable};
 
 use crate::{Entry, Fault, certificate_text, read_certificate};
 use std::alloc::{AllocError, Global};
@@ -21,6 +22,20 @@ pub fn written_is_read_back()
 pub fn only_written_is_read()
     ensures { OnlyWrittenIsRead }
 {}
+
+// The elements of a slice of bytes are below 256: a proof knows it of a slice that the body reads.
+fn are_bytes(bytes: &[u8])
+    ensures { IsBytes bytes.now }
+{
+    let _count = bytes.len();
+}
+
+/// What is kept of a sheet is writable where its name stands on one line and its lines begin with two blanks: a digest always has 32 bytes.
+pub fn kept_is_writable(entry: &Entry)
+    ensures { onOneLine entry.now.name.items ≡ true → isIndented entry.now.lines.items ≡ true → writable (keptOf entry.now) ≡ true }
+{
+    are_bytes(&entry.digest);
+}
 
 /// Writes what is kept of sheets, and reads it again: the same, where it is writable.
 pub fn written_and_read(
