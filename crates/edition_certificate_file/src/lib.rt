@@ -152,7 +152,7 @@ fn put_last(sheets: usize, out: &mut Vec<u8>) -> Result<(), AllocError>
     put_number(out, sheets)
 }
 
-/// A certificate as text.
+/// A certificate as text: where the entries are writable, `read_certificate` reads it back (`theorems::written_and_read`).
 #[tactic(auto, unfolding(crate::specs::Files::keptsText))]
 pub fn certificate_text(alloc: Global, entries: &[Entry]) -> Result<Vec<u8>, AllocError>
     ensures { IfOk result (λ v. v.items ≡ certificateText entries.now) }

@@ -18,7 +18,8 @@ pub fn written_is_read_back()
     ensures { WrittenIsRead }
 {}
 
-/// What is read of a text is writable, and the text is what it is written as, byte by byte: no two sheets that are read have one name (`read-written`).
+/// What is read of a text is writable, and the text is what it is written as, byte by byte: no two sheets that are read have one name. So sheets that aren't
+/// writable are never what is read of their text (`read-written`).
 pub fn only_written_is_read()
     ensures { OnlyWrittenIsRead }
 {}
