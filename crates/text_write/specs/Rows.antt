@@ -5,8 +5,6 @@ use Rattle.rules.specs.Trees.{Con, equal, isDim, is_scalar, hasField, sizeCon}
 use Rattle.records.specs.ByView.{con-in}
 use Rattle.records.specs.Good.{Chain, GoodCon}
 use Rattle.records.specs.Holds.{HoldsCon, con-long}
-use Rattle.records.specs.Parsed.{only-con}
-use Rattle.types.specs.Once.{ACon}
 use Rattle.records.specs.Views.{longAt}
 
 size-con : (c : Con ℕ) → 1 ≤ sizeCon c
@@ -15,10 +13,6 @@ size-con (equal l r) = omega arith
 size-con (isDim t) = omega arith
 size-con (is_scalar p) = omega arith
 size-con (hasField x l r) = omega arith
-
--- a place holds one constraint
-pub con-is : (s : List ℕ) (at : ℕ) (x : ACon s at) (c : Con ℕ) → HoldsCon s c at → x.0 ≡ c
-con-is s at x c h = only-con s x.0 c at x.1 h
 
 module _ (pool table s : List ℕ) where
   -- good constraints up to the end of the words

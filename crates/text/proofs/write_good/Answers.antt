@@ -1,6 +1,6 @@
 -- `write_good` meets its contract: by what the lines put.
 use Rattle.std.specs.Prelude.{Ok}
-use Rattle.std.proofs.Common.{sym, ap, ◌∙◌, arith}
+use Rattle.std.proofs.Common.{ap, ◌∙◌, arith, rules}
 use Rattle.text.specs.Told.{listedAs}
 use Rattle.text.proofs.Whole.{has-room, set-in, text-fits, text-given}
 use Rattle.text.proofs.write_good.Goals as goal
@@ -23,4 +23,4 @@ returns c =
     let x = set-in n.pool.now n.table.now c.args.set.now c.args.text.now c.requires.room (record { word = λ i. (c.type_inv.set i).fits }) c.requires.good in
     let p = c.in-Ok.ensures x.0 x.1.lines in
     let told = text-given n.pool.now n.table.now c.args.set.now c.args.text.now c.requires.room x.0 x.1 c.write_lines.new.to.fits p in
-    ap (listedAs (Ok c.write_lines.new.to.len)) (c.text-1.given.1.1 (sym p.same)) ∙ told
+    ap (listedAs (Ok c.write_lines.new.to.len)) (search (rules, p.same)) ∙ told
