@@ -27,8 +27,8 @@ returns-then-not-bindings_flat c = λ st m k.
 
 pub returns : goal.returns
 returns c = λ st m k.
-    limit-flat _ _ _ _ st m c.if-ends-gt-RECORDS.false c.constraints_flat.ensures c.if-not-constraints_flat.false c.bindings_flat.ensures c.if-not-bindings_flat.false
-    (search) (search)
+    limit-flat _ _ _ _ st m c.if-ends-gt-RECORDS.false c.constraints_flat.ensures c.if-not-constraints_flat.false c.bindings_flat.ensures
+    c.if-not-bindings_flat.false (search) (search)
 
 pub invariant_of-constraints : goal.invariant_of-constraints
 invariant_of-constraints c =

@@ -115,7 +115,9 @@ pub pairs-requires : goal.pairs-requires
 pairs-requires c = let i = c.in-Function-Function in omega (arith, c.requires.short, sizes-function _ _ _ i.ensures, sizes-function _ _ _ i.ensures')
 
 pub pairs-requires-in-Struct-Struct : goal.pairs-requires-in-Struct-Struct
-pairs-requires-in-Struct-Struct c = let i = c.in-Struct-Struct in omega (arith, c.requires.short, sizes-struct _ _ _ _ i.ensures, sizes-struct _ _ _ _ i.ensures')
+pairs-requires-in-Struct-Struct c =
+    let i = c.in-Struct-Struct in
+    omega (arith, c.requires.short, sizes-struct _ _ _ _ i.ensures, sizes-struct _ _ _ _ i.ensures')
 
 pub equal-requires-in-List-List : goal.equal-requires-in-List-List
 equal-requires-in-List-List c = let i = c.in-List-List in omega (arith, c.requires.short, sizes-list _ _ i.ensures, sizes-list _ _ i.ensures')
