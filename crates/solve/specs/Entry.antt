@@ -1,6 +1,6 @@
 -- The checks of a set past that of 10, and what is known where they are met; and the whole call.
 use Rattle.std.specs.Prelude.{Result, Ok, Err, IfOk, ◌≡◌, Bool, List, [], ◌∷◌, ℕ, ◌/◌, ◌≤◌, ◌&&◌, leb, length, replicate}
-use Rattle.std.proofs.Common.{refl, sym, ap, ap₂, ◌∙◌}
+use Rattle.std.proofs.Common.{refl, sym, ap, ◌∙◌}
 use Rattle.std.proofs.Math.Bool.{and-eq-true_iff}
 use borrow.Author.Tests.{leb-true, le-leb}
 use Rattle.rules.specs.Base.{Got, got, refused, ◌>>=◌, ◌>>◌, need, all, collect}
@@ -25,7 +25,7 @@ use Rattle.rules.specs.Trees.{Con, opensCon}
 use Rattle.rules.specs.declared.Refusal.{Refusal}
 use Rattle.rules.specs.declared.Refusal.TheVariants.{ShortBuffer}
 use Rattle.laws.specs.Checks.{need-passed}
-use Rattle.laws.specs.Lists.{clash}
+use Rattle.laws.specs.Lists.{clash, bracket, same_after}
 use Rattle.laws.specs.NameTable.{good-laid}
 use Rattle.names.specs.Told.{unit_of}
 use Rattle.names.specs.declared.tables.NameTable.{NameTable}
@@ -37,7 +37,7 @@ use Rattle.queries.specs.Runs.{set-small, set-opens}
 use Rattle.queries.specs.Scans.{opensIn}
 use Rattle.replace.specs.Given.{given-cons}
 use Rattle.types.proofs.GivenSets.{Given, given-in}
-use Rattle.types.proofs.Tested.{kept, as-refused}
+use Rattle.types.proofs.Tested.{kept, as-refused, past_table, tested}
 use Rattle.types.specs.Given.{over_table, call_over, constraints_in}
 use Rattle.types.specs.declared.GivenSet.{GivenSet}
 use Rattle.solve.specs.declared.Solution.{Solution}
@@ -55,25 +55,12 @@ module _ {A B : Type 0} (u : A → Got (Unit {0})) (g : A → Got B) where
   abbrev whole : Got (Unit {0}) → Got (Unit {0}) → Got A → Got B
   whole s k m = s >>= λ _. k >>= λ _. m >>= λ a. u a >>= λ _. g a
 
-  met : (s k : Got (Unit {0})) (m : Got A) (a : A) → k ≡ got tt → (s >> (m >>= λ x. u x >> got x)) ≡ got a → whole s k m ≡ g a
-  met (refused i) k m a h e = clash e
-  met (got x) (refused i) m a h e = clash h
-  met (got x) (got y) (refused i) a h e = clash e
-  met (got x) (got y) (got z) a h e = go (u z) refl
-    where
-      go : (v : Got (Unit {0})) → u z ≡ v → (u z >>= λ _. g z) ≡ g a
-      go (refused i) q = let n : refused i ≡ got a = rw q at e in clash n
-      go (got w) q = let n : got z ≡ got a = rw q at e in let same : z ≡ a = cc in rw q (ap g same)
-
-  unmet : (s k : Got (Unit {0})) (m : Got A) (n : ℕ) → k ≡ got tt → (s >> (m >>= λ x. u x >> got x)) ≡ refused n → whole s k m ≡ refused n
-  unmet (refused i) k m n h e = cc
-  unmet (got x) (refused i) m n h e = clash h
-  unmet (got x) (got y) (refused i) n h e = cc
-  unmet (got x) (got y) (got z) n h e = go (u z) refl
-    where
-      go : (v : Got (Unit {0})) → u z ≡ v → (u z >>= λ _. g z) ≡ refused n
-      go (refused i) q = let o : refused i ≡ refused n = rw q at e in rw q (cc)
-      go (got w) q = let o : got z ≡ refused n = rw q at e in clash (sym o)
+  -- past a table that is kept they come to what entering comes to, and then the answer
+  at_once : (s k : Got (Unit {0})) (m : Got A) → k ≡ got tt → whole s k m ≡ ((s >> (m >>= λ x. u x >> got x)) >>= g)
+  at_once s k m h =
+      let inner : ((m >>= λ x. u x >> got x) >>= g) ≡ (m >>= λ a. u a >> g a) = bracket m (λ x. u x >> got x) g
+      ∙ same_after m (λ x. (u x >> got x) >>= g) (λ a. u a >> g a) (λ a. bracket (u a) (λ _. got a) g) in
+      ap (λ (r : Got B). s >> (k >> r)) (sym inner) ∙ past_table s k (m >>= λ x. u x >> got x) g h
 
 pub long-table : (pool table : List ℕ) → lentTable pool table ≡ got tt → (8192 ≤ length pool) × (257 ≤ length table)
 unfolding lentTable
@@ -94,29 +81,20 @@ module _ {A : Type 0} (g : Table → List (Con ℕ) → Got A) where
         → call_over names made ws ≡ g (table_of s.names.pool.now s.names.table.now) (constraints_in s)
     came-in names s i e =
         let t = table_of s.names.pool.now s.names.table.now in
-        rw i (met (λ cs. apart t (collect opensCon cs)) (g t) (shortLists (ws ∷ [])) (tableKept t) (setGiven t ws) (constraints_in s) (kept s.names)
-        (sym (rw i at e)))
+        rw i
+        (at_once (λ cs. apart t (collect opensCon cs)) (g t) (shortLists (ws ∷ [])) (tableKept t) (setGiven t ws) (kept s.names)
+        ∙ ap (◌>>= g t) (sym (rw i at e)))
 
     pub kept_out : (names : Result NameTable Refusal) (n : ℕ) → refused n ≡ entered names ws → call_over names made ws ≡ refused n
     kept_out (Err why) n e = as-refused (shortLists (ws ∷ [])) n (number_of why) e
     kept_out (Ok names) n e =
         let t = table_of names.pool.now names.table.now in
-        unmet (λ cs. apart t (collect opensCon cs)) (g t) (shortLists (ws ∷ [])) (tableKept t) (setGiven t ws) n (kept names) (sym e)
+        at_once (λ cs. apart t (collect opensCon cs)) (g t) (shortLists (ws ∷ [])) (tableKept t) (setGiven t ws) (kept names) ∙ ap (◌>>= g t) (sym e)
 
-  module _ (pool table : List ℕ) (l : lentTable pool table ≡ got tt) where
-    refused-table : (k : ℕ) (a : Got (Unit {0})) → tableKept (table_of pool table) ≡ a → refused k ≡ (lentTable pool table >> a)
-        → ◌≡◌ {A = List ℕ → Got A} (λ ws. shortLists (ws ∷ []) >> refused k) (made (table_of pool table))
-    refused-table k (got u) q e = clash (let z : refused k ≡ got u = rw l at e in z)
-    refused-table k (refused j) q e =
-        let z : refused k ≡ refused j = rw l at e in
-        ap (made_past (table_of pool table)) (z ∙ sym q)
-
-    -- over the table that was tested it is what the call asks
-    pub tested : (names : Result NameTable Refusal) → toldBy unit_of names ≡ tableGiven pool table
-        → IfOk names (λ n. (n.pool.now ≡ pool) × (n.table.now ≡ table)) → ◌≡◌ {A = List ℕ → Got A} (call_over names made) (made (table_of pool table))
-    unfolding tableGiven tableKept
-    tested (Ok n) e i = ap₂ (λ (p q : List ℕ). made (table_of p q)) i.0 i.1
-    tested (Err why) e i = refused-table (number_of why) (tableKept (table_of pool table)) refl e
+  -- over the table that was tested it is what the call asks
+  pub over_tested : (pool table : List ℕ) → lentTable pool table ≡ got tt → (names : Result NameTable Refusal) → toldBy unit_of names ≡ tableGiven pool table
+      → IfOk names (λ n. (n.pool.now ≡ pool) × (n.table.now ≡ table)) → ◌≡◌ {A = List ℕ → Got A} (call_over names made) (made (table_of pool table))
+  over_tested pool table l = tested made_past pool table l (λ names. call_over names made) (λ n. refl) (λ why. refl)
 
 -- ══ What is known of a set that came in ══
 

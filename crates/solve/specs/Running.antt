@@ -24,9 +24,8 @@ use Rattle.solve_round.specs.declared.After.TheVariants.{Nowhere, Read, Written}
 use Rattle.solve_round.specs.declared.Place.{Place}
 use Rattle.replace.specs.Kept.{cons-weaker}
 use Rattle.replace.specs.Written.{written-cons}
-use Rattle.types.specs.Binds.{HoldsBinds}
 use Rattle.types.specs.Puts.{set-words}
-use Rattle.types.specs.Sets.{HoldsCons, IsCons}
+use Rattle.types.specs.Sets.{IsCons}
 use Rattle.types.specs.Runs.{HoldsEach}
 use Rattle.solve_round.specs.States.{Placed, Rounded, SoundSet, Stands}
 use Rattle.std.specs.Prelude.{Result, Ok, Err}

@@ -14,7 +14,7 @@ use Rattle.rules.specs.declared.Refusal.{Refusal}
 use Rattle.names.specs.Told.{unit_of}
 use Rattle.names.specs.declared.tables.NameTable.{NameTable}
 use Rattle.types.specs.Given.{call_over}
-use Rattle.solve.specs.Entry.{tested}
+use Rattle.solve.specs.Entry.{over_tested}
 use Rattle.rules.specs.Solving.{Answer, solve}
 use Rattle.rules.specs.Trees.{Con}
 use Rattle.rules.specs.declared.Refusal.TheVariants.{ShortBuffer}
@@ -108,7 +108,7 @@ module _ (pool table set : List ℕ) (l : lentTable pool table ≡ got tt) (name
     (i : IfOk names (λ n. (n.pool.now ≡ pool) × (n.table.now ≡ table))) where
   same : call_over names solvedSet set ≡ solvedSet (table_of pool table) set
   unfolding solvedSet
-  same = ap (λ (f : List ℕ → Got (Answer ℕ)). f set) (tested (λ t cs. got (solve (numbersOf t) bounded cs)) pool table l names e i)
+  same = ap (λ (f : List ℕ → Got (Answer ℕ)). f set) (over_tested (λ t cs. got (solve (numbersOf t) bounded cs)) pool table l names e i)
 
   pub answered-over : (b b' : List ℕ) (s : Solution) → Answered (call_over names solvedSet set) b b' s → Answered (solvedSet (table_of pool table) set) b b' s
   answered-over b b' s a = subst (λ (m : Got (Answer ℕ)). Answered m b b' s) same a

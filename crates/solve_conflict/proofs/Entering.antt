@@ -14,7 +14,7 @@ use Rattle.names.specs.Told.{unit_of}
 use Rattle.names.specs.declared.tables.NameTable.{NameTable}
 use Rattle.types.specs.Given.{call_over, constraints_in}
 use Rattle.types.specs.declared.GivenSet.{GivenSet}
-use Rattle.solve.specs.Entry.{entered, came-in, kept_out, tested}
+use Rattle.solve.specs.Entry.{entered, came-in, kept_out, over_tested}
 use Rattle.solve_conflict.specs.Told.{FoundAs, conflictsAs}
 
 module _ (names : Result NameTable Refusal) (ws : List ℕ) where
@@ -38,7 +38,7 @@ module _ (names : Result NameTable Refusal) (ws : List ℕ) where
       → FoundAs (call_over names conflictOf ws) res res' r → FoundAs (conflictOf (table_of pool table) ws) res res' r
   unfolding conflictOf
   found-over pool table l e i res res' r f =
-      let over = tested (λ t cs. conflictIn (numbersOf t) cs) pool table l names e i in
+      let over = over_tested (λ t cs. conflictIn (numbersOf t) cs) pool table l names e i in
       subst (λ (m : Got (Option (List (Line ℕ)))). FoundAs m res res' r)
       (ap (λ (g : List ℕ → Got (Option (List (Line ℕ)))). g ws) over) f
 

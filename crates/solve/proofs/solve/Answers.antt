@@ -5,7 +5,7 @@ use Rattle.rules.specs.Calls.{solvedSet}
 use Rattle.rules.specs.Names.{numbersOf, table_of}
 use Rattle.rules.specs.Solving.{Answer, solve}
 use Rattle.records_buffers.specs.Lent.{Long, long, short}
-use Rattle.solve.specs.Entry.{short-stands, called-stands, call-short, called, tested, answers-as}
+use Rattle.solve.specs.Entry.{short-stands, called-stands, call-short, called, over_tested, answers-as}
 use Rattle.solve.specs.Told.{Answered}
 use mathlib.Core.Bool.{not}
 use mathlib.Core.Path.{ap, sym}
@@ -25,7 +25,7 @@ pub returns : goal.returns
 unfolding solvedSet
 returns c = let enough : Long c.args.pool.now c.args.table.now c.args.res.now c.args.work.now =
     long _ _ _ _ c.lent.result c.lent.ensures (ap not c.if-not-lent.false) in
-    let over = tested (λ t cs. got (solve (numbersOf t) bounded cs)) c.args.pool.now c.args.table.now enough.table-met _
+    let over = over_tested (λ t cs. got (solve (numbersOf t) bounded cs)) c.args.pool.now c.args.table.now enough.table-met _
     c.new-names.ensures.answer c.new-names.ensures.same in
     let answered : Answered (solvedSet (table_of c.args.pool.now c.args.table.now) c.args.words.now) _ _ _ =
     answers-as _ _ _ _ _ (sym (ap (λ (f : List ℕ → Got (Answer ℕ)). f c.args.words.now) over)) c.solve_set-s.ensures in

@@ -5,7 +5,7 @@ use Rattle.rules.specs.Calls.{solvedSet}
 use Rattle.rules.specs.Names.{numbersOf}
 use Rattle.rules.specs.Solving.{solve}
 use Rattle.rules.specs.Refusals.{told}
-use Rattle.solve.specs.Entry.{tested}
+use Rattle.solve.specs.Entry.{over_tested}
 use Rattle.solve_batch.specs.Steps.{finished-as}
 use Rattle.rules.specs.Batches.{batchFits}
 use Rattle.solve_batch.proofs.Checks.{Room, roomy, cramped, begun, call-short, call-unfit, called}
@@ -27,7 +27,7 @@ unfolding solvedSet
 returns-in-Ok c = let enough : Room c.args.pool.now c.args.table.now c.args.lengths.now c.args.res.now c.args.answers.now c.args.work.now =
     roomy _ _ _ _ _ _ c.all_lent.result c.all_lent.ensures (ap not c.if-not-all_lent.false) in
     let added : batchFits c.args.sets.now c.args.lengths.now ≡ got tt = sym c.fits.ensures ∙ ap told c.in-Ok.is in
-    let over = tested (λ t cs. got (solve (numbersOf t) bounded cs)) c.args.pool.now c.args.table.now (enough).table-met _
+    let over = over_tested (λ t cs. got (solve (numbersOf t) bounded cs)) c.args.pool.now c.args.table.now (enough).table-met _
     c.new-names.ensures.answer c.new-names.ensures.same in
     called _ _ _ _ _ _ _ _ c.solve_each-n.new.work _ _ _ c.solve_each-n.auto.work (enough).met (added)
     (finished-as _ _ _ _ _ _ _ _ _ over c.solve_each-n.ensures) c.clear.ensures
