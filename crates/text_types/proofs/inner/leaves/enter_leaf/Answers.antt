@@ -1,5 +1,5 @@
 -- `inner::leaves::enter_leaf` meets its contract.
-use Rattle.std.proofs.Common.{sym, ◌∙◌}
+use Rattle.std.proofs.Common.{sym, ◌∙◌, rules}
 use Rattle.text_dimensions.specs.Whole.{dim-done}
 use Rattle.text_grammar.specs.Choice.{by-var, by-par, by-dimension, by_bool, by-string, by-datetime}
 use Rattle.text_types.specs.Rows.{done-by, no-head, no-type}
@@ -37,9 +37,8 @@ returns-in-68 c = λ d e f g. done-by (by-datetime d (sym c.byte_at.ensures ∙ 
 
 pub returns-in_default : goal.returns-in_default
 returns-in_default c =
-    let r = c.in_default.in_default-own.rest in
     let b = c.byte_at.ensures in
     λ d e f g. rw c.refuse.ensures
     (no-type c.requires d
-    (no-head _ (λ h. r.0.0.0.0.0.1 (b ∙ h)) (λ h. r.0.0.0.0.1 (b ∙ h)) (λ h. r.0.0.0.1 (b ∙ h)) (λ h. r.0.0.1 (b ∙ h)) (λ h. r.0.1 (b ∙ h))
-    (λ h. r.1 (b ∙ h)) e f g))
+    (no-head _ (λ h. search (rules, b ∙ h)) (λ h. search (rules, b ∙ h)) (λ h. search (rules, b ∙ h)) (λ h. search (rules, b ∙ h)) (λ h. search (rules, b ∙ h))
+    (λ h. search (rules, b ∙ h)) e f g))

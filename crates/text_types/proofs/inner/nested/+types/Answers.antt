@@ -2,6 +2,7 @@
 use mathlib.Core.Path.{sym, ◌∙◌}
 use mathlib.Core.List.{[]}
 use native.Mathlib.Omega.{arith}
+use Rattle.std.proofs.Common.{rules}
 use Rattle.rules.specs.Grammar.{type}
 use Rattle.text_grammar.specs.Choice.{by-function, by-list, by-structure}
 use Rattle.text_names.specs.Effects.{kept_then, kept_above, kept-count, ready-count, ready_on, ready-next}
@@ -235,9 +236,9 @@ enter_type-enter_leaf-requires t c =
 
 pub enter_type-returns-in_default : goal.enter_type-returns-in_default
 enter_type-returns-in_default t c =
-    let r = c.in_default.in_default-own.rest in
     let b = c.byte_at.ensures in
-    type-some _ c.if-d-eq0.false c.next_sign-q.ensures (c.enter_leaf.ensures _ (λ h. r.0.0.1 (b ∙ h)) (λ h. r.0.1 (b ∙ h)) (λ h. r.1 (b ∙ h)))
+    type-some _ c.if-d-eq0.false c.next_sign-q.ensures
+    (c.enter_leaf.ensures _ (λ h. search (rules, b ∙ h)) (λ h. search (rules, b ∙ h)) (λ h. search (rules, b ∙ h)))
 
 pub enter_types-enter_type-first-requires : goal.enter_types-enter_type-first-requires
 enter_types-enter_type-first-requires t c =
