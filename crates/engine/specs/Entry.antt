@@ -1,6 +1,6 @@
 -- The checks of a set past that of 10, and what is known where they are met; and the whole call.
 use Rattle.std.specs.Prelude.{◌≡◌, refl, Err, ◌&&◌, List, [], ◌∷◌, ℕ, ◌/◌, ◌≤◌, leb, length, replicate}
-use Rattle.std.proofs.Common.{arith, sym, subst}
+use Rattle.std.proofs.Common.{arith, sym, subst, ◌∙◌}
 use Rattle.std.proofs.Math.Path.{ap}
 use Rattle.std.proofs.Math.Bool.{true}
 use borrow.Author.Tests.{leb-true}
@@ -22,6 +22,7 @@ use Rattle.queries.specs.Marks.{Small}
 use Rattle.queries.specs.Runs.{set-small, set-opens}
 use Rattle.queries.specs.Scans.{opensIn}
 use Rattle.rules.specs.Elimination.{Settled, setChecked, fitting, eliminated, eliminatedSet, eliminatedOf, eliminatedWords, eliminateCall}
+use Rattle.engine.specs.Reducing.{reduction}
 use Rattle.engine.specs.Told.{Answer, Answered, eliminationAs}
 
 -- ══ A row of checks ══
@@ -126,12 +127,16 @@ module _ (pool table s : List ℕ) (e : ℕ) where
       let r = held-set cs c.0 c.1.1 in
       record { held = (c.1.0.held, subst (HoldsCons s cs) c.1.0.past r.held); ends = omega (arith, r.ends, c.1.0.past) }
 
-  module _ (cs : List (Con ℕ)) (c : Chain (GoodCon pool table 0 s) e cs 0) (set : Cons s 0 e) where
-    pub same-set : set.0 ≡ cs
-    same-set = ap (λ (x : Cons s 0 e). x.0) (one-set s 0 e set (cs, held-set cs 0 c))
+  -- whichever constraints stand there, they are these
+  module _ (cs : List (Con ℕ)) (c : Chain (GoodCon pool table 0 s) e cs 0) where
+    same-set : (set : List (Con ℕ)) → IsCons s 0 e set → set ≡ cs
+    same-set set h = ap (λ (x : Cons s 0 e). x.0) (one-set s 0 e (set, h) (cs, held-set cs 0 c))
 
-    pub set-held : Chain (GoodCon pool table 0 s) e set.0 0
-    set-held = subst (λ (l : List (Con ℕ)). Chain (GoodCon pool table 0 s) e l 0) (sym same-set) c
+    pub set-held : (set : List (Con ℕ)) → IsCons s 0 e set → Chain (GoodCon pool table 0 s) e set 0
+    set-held set h = subst (λ (l : List (Con ℕ)). Chain (GoodCon pool table 0 s) e l 0) (sym (same-set set h)) c
+
+    pub reduced-set : {m : Got (Settled ℕ)} {set : List (Con ℕ)} → m ≡ reduction pool table set → IsCons s 0 e set → m ≡ reduction pool table cs
+    reduced-set {m} {set} i h = i ∙ ap (reduction pool table) (same-set set h)
 
 -- ══ The call ══
 

@@ -25,7 +25,7 @@ use Rattle.engine_matrix.specs.declared.inner.parts.Columns.{Columns}
 use Rattle.engine_matrix.specs.declared.inner.parts.Machine.{Machine}
 use Rattle.rules.specs.Elimination as Rows
 use Rattle.std.proofs.lemmas.List.{length-map}
-use Rattle.laws.specs.Lists.{clash}
+use Rattle.laws.specs.Lists.{clash, same-number}
 use Rattle.rules.specs.Elimination.{Row, eliminate, Settled, settledBy, scalarOf, columns, isVariable, fits, fitting, eliminated}
 use Rattle.engine_matrix.specs.Machine.{colsIn, staying, bound}
 use Rattle.engine.specs.declared.inner.Reduced.{Reduced}
@@ -55,10 +55,10 @@ module _ (pool table : List ℕ) (cs : List (Con ℕ)) where
     where
       few : (ps : List (Product ℕ)) → each scalarOf cs ≡ got ps → (b : Bool) → leb (length ps) 24 ≡ b → reduction ≡ refused j
       few ps i true k = let z : got (paddedRows names cols ps) ≡ refused j = rw (i, k) at e in clash (sym z)
-      few ps i false k = let z : ◌≡◌ {A = Got (List Row)} (refused 8) (refused j) = rw (i, k) at e in let y : 8 ≡ j = cc in rw (i, k, y) refl
+      few ps i false k = let z : ◌≡◌ {A = Got (List Row)} (refused 8) (refused j) = rw (i, k) at e in rw (i, k, same-number z) refl
 
       go : (m : Got (List (Product ℕ))) → each scalarOf cs ≡ m → reduction ≡ refused j
-      go (refused n) i = let z : ◌≡◌ {A = Got (List Row)} (refused n) (refused j) = rw i at e in let y : n ≡ j = cc in rw (i, y) refl
+      go (refused n) i = let z : ◌≡◌ {A = Got (List Row)} (refused n) (refused j) = rw i at e in rw (i, same-number z) refl
       go (got ps) i = few ps i (leb (length ps) 24) refl
 
   module _ (s : List ℕ) (e : ℕ) (chain : Chain (GoodCon pool table 0 s) e cs 0) (names : List Bytes) (cols : List (Atom ℕ)) (rows : List Row)

@@ -138,7 +138,7 @@ pub struct Reduced {
 
 /// The set, laid out and eliminated. Refuses with 8 where it doesn't fit, and with 7.
 pub fn reduce(names: NameTable, set: Constraints) -> Result<Reduced, Refusal>
-    requires a_set { SetHeld names.pool.now names.table.now set.words.now set.end set.trees.0 }
+    requires set_held { SetHeld names.pool.now names.table.now set.words.now set.end set.trees.0 }
     ensures { toldBy settledOf result ≡ reduction names.entry.pool.now names.entry.table.now set.entry.trees.0 }
 {
     lines_of(set, none())?; // the kinds alone: which names there are is known of equal-scalars only
@@ -181,7 +181,7 @@ pub fn eliminate_set(
     words: &[u32],
     res: &mut [u32],
 ) -> Result<Eliminated, Refusal>
-    requires table_value { lentTable pool.now table.now ≡ got tt }
+    requires table_lent { lentTable pool.now table.now ≡ got tt }
     requires room { 8192 ≤ length res.old }
     ensures { Answered (eliminatedSet (table_of pool.now table.now) words.now) res.old res.new result }
 {

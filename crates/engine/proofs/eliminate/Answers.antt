@@ -14,7 +14,7 @@ pub eliminate_set-answer-requires : goal.eliminate_set-answer-requires
 eliminate_set-answer-requires c =
     let a = c.args in
     let l : Long a.pool.now a.table.now a.res.now a.work.now = long _ _ _ _ c.lent.result c.lent.ensures (ap not c.if-not-lent.false) in
-    record { table_value = l.table-met; room = l.result-long }
+    record { table_lent = l.table-met; room = l.result-long }
 
 pub returns : goal.returns
 returns c =

@@ -1,9 +1,8 @@
 -- `inner::eliminate_set` meets its contract.
-use Rattle.std.proofs.Common.{sym, ap, ◌∙◌, arith}
+use Rattle.std.proofs.Common.{sym, ◌∙◌, arith}
 use Rattle.std.proofs.lemmas.Result.{err_from_is_err_and}
 use Rattle.records.specs.Found.{Words32}
-use Rattle.engine.specs.Entry.{came-in, kept_out, answers-as, held-set, same-set, set-held}
-use Rattle.engine.specs.Reducing.{reduction}
+use Rattle.engine.specs.Entry.{came-in, kept_out, answers-as, held-set, set-held, reduced-set}
 use Rattle.engine.proofs.Written.{refused-answers}
 use Rattle.engine.proofs.inner.eliminate_set.Goals as goal
 
@@ -12,7 +11,7 @@ returns-in_err-enter c =
     let a = c.args in
     let w : Words32 a.words.now = record { word = λ i. (c.type_inv.words i).fits } in
     let p = err_from_is_err_and c.from_residual.result c.from_residual.ensures.1 in
-    rw (p.1, p.2) (refused-answers _ _ _ (kept_out a.pool.now a.table.now a.words.now w _ c.requires.table_value (sym c.in_err-enter.ensures)))
+    rw (p.1, p.2) (refused-answers _ _ _ (kept_out a.pool.now a.table.now a.words.now w _ c.requires.table_lent (sym c.in_err-enter.ensures)))
 
 pub invariant_of-names : goal.invariant_of-names
 invariant_of-names c =
@@ -25,7 +24,7 @@ reduce-requires c =
     let a = c.args in
     let w : Words32 a.words.now = record { word = λ i. (c.type_inv.words i).fits } in
     let x = came-in a.pool.now a.table.now a.words.now w (sym c.in_ok-enter.ensures) in
-    record { a_set = set-held a.pool.now a.table.now a.words.now _ x.set x.chain c.reduce-arg-2-1.given.1.0 }
+    record { set_held = set-held a.pool.now a.table.now a.words.now _ x.set x.chain _ (search) }
 
 pub invariant_of-set : goal.invariant_of-set
 invariant_of-set c =
@@ -40,13 +39,13 @@ returns-in_err-reduced c =
     let w : Words32 a.words.now = record { word = λ i. (c.type_inv.words i).fits } in
     let x = came-in a.pool.now a.table.now a.words.now w (sym c.in_ok-enter.ensures) in
     let p = err_from_is_err_and c.from_residual-in_err-reduced.result c.from_residual-in_err-reduced.ensures.1 in
-    rw (p.1, p.2) (refused-answers _ _ _ (x.all ∙ sym (c.in_err-reduced.ensures
-    ∙ ap (reduction a.pool.now a.table.now) (same-set a.pool.now a.table.now a.words.now _ x.set x.chain c.reduce-arg-2-1.given.1.0))))
+    rw (p.1, p.2) (refused-answers _ _ _ (x.all
+    ∙ sym (reduced-set a.pool.now a.table.now a.words.now _ x.set x.chain c.in_err-reduced.ensures (search))))
 
 pub returns : goal.returns
 returns c =
     let a = c.args in
     let w : Words32 a.words.now = record { word = λ i. (c.type_inv.words i).fits } in
     let x = came-in a.pool.now a.table.now a.words.now w (sym c.in_ok-enter.ensures) in
-    answers-as _ _ _ _ _ (x.all ∙ sym (c.in_ok-reduced.ensures
-    ∙ ap (reduction a.pool.now a.table.now) (same-set a.pool.now a.table.now a.words.now _ x.set x.chain c.reduce-arg-2-1.given.1.0))) c.write.ensures
+    answers-as _ _ _ _ _ (x.all ∙ sym (reduced-set a.pool.now a.table.now a.words.now _ x.set x.chain c.in_ok-reduced.ensures (search)))
+    c.write.ensures

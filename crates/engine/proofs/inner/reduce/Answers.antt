@@ -14,7 +14,7 @@ use Rattle.engine.proofs.inner.reduce.Goals as goal
 pub lines_of-requires : goal.lines_of-requires
 lines_of-requires c =
     let a = c.args in
-    record { plain = all-plain a.names.pool.now a.names.table.now a.set.words.now a.set.trees.0 0 a.set.end c.requires.a_set }
+    record { plain = all-plain a.names.pool.now a.names.table.now a.set.words.now a.set.trees.0 0 a.set.end c.requires.set_held }
 
 pub returns-in_err-lines_of : goal.returns-in_err-lines_of
 returns-in_err-lines_of c =
@@ -26,7 +26,7 @@ pub list_columns-requires : goal.list_columns-requires
 list_columns-requires c =
     let a = c.args in
     record {
-      known = set_known a.names.pool.now a.names.table.now a.set.trees.0 a.set.words.now a.set.end c.requires.a_set [] _ _
+      known = set_known a.names.pool.now a.names.table.now a.set.trees.0 a.set.words.now a.set.end c.requires.set_held [] _ _
           (sym (c.in_ok-lines_of.ensures []));
     }
 
@@ -35,13 +35,13 @@ returns-in_err-columns c =
     let a = c.args in
     let p = err_from_is_err_and c.from_residual-in_err-columns.result c.from_residual-in_err-columns.ensures.1 in
     rw (p.1, p.2)
-    (sym (names-unfit a.names.pool.now a.names.table.now a.set.trees.0 a.set.words.now a.set.end c.requires.a_set [] _ _
+    (sym (names-unfit a.names.pool.now a.names.table.now a.set.trees.0 a.set.words.now a.set.end c.requires.set_held [] _ _
     (sym (c.in_ok-lines_of.ensures [])) _ (sym c.in_err-columns.ensures)))
 
 pub lines_of-requires-2 : goal.lines_of-requires-2
 lines_of-requires-2 c =
     let a = c.args in
-    record { plain = all-plain a.names.pool.now a.names.table.now a.set.words.now a.set.trees.0 0 a.set.end c.requires.a_set }
+    record { plain = all-plain a.names.pool.now a.names.table.now a.set.words.now a.set.trees.0 0 a.set.end c.requires.set_held }
 
 pub returns-in_err-lines : goal.returns-in_err-lines
 returns-in_err-lines c =
@@ -57,7 +57,7 @@ returns-in_err-machine c =
     let m = length-take-le l.lines.len (rowsIn l.lines.grid) (omega (arith, l.lines.few, grid-long l.lines.grid)) in
     let p = err_from_is_err_and c.from_residual-in_err-machine.result c.from_residual-in_err-machine.ensures.1 in
     rw (p.1, p.2)
-    (all-reduced a.names.pool.now a.names.table.now a.set.trees.0 a.names.good a.set.words.now a.set.end c.requires.a_set c.in_ok-columns.columns
+    (all-reduced a.names.pool.now a.names.table.now a.set.trees.0 a.names.good a.set.words.now a.set.end c.requires.set_held c.in_ok-columns.columns
     (listed-so _ _ _ _ c.in_ok-columns.ensures) l.lines.len _ (sym m) (sym (l.ensures names)) _ (c.in_err-machine.ensures ∙ c.start.ensures _))
 
 pub returns : goal.returns
@@ -66,5 +66,5 @@ returns c =
     let names = names_of (table_of a.names.pool.now a.names.table.now) in
     let l = c.in_ok-lines in
     let m = length-take-le l.lines.len (rowsIn l.lines.grid) (omega (arith, l.lines.few, grid-long l.lines.grid)) in
-    all-reduced a.names.pool.now a.names.table.now a.set.trees.0 a.names.good a.set.words.now a.set.end c.requires.a_set c.in_ok-columns.columns
+    all-reduced a.names.pool.now a.names.table.now a.set.trees.0 a.names.good a.set.words.now a.set.end c.requires.set_held c.in_ok-columns.columns
     (listed-so _ _ _ _ c.in_ok-columns.ensures) l.lines.len _ (sym m) (sym (l.ensures names)) _ (c.in_ok-machine.ensures ∙ c.start.ensures _)
