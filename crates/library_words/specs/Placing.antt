@@ -1,15 +1,14 @@
 -- A number that is held has its name where the table says; of any other nothing is said.
 use Rattle.std.proofs.Math.Path.{◌≡◌, refl}
-use Rattle.std.proofs.Common.{sym, ap, ◌∙◌, arith}
-use Rattle.std.specs.Prelude.{Bool, List, [], ℕ, zero, suc, ◌<◌, length}
-use Rattle.std.proofs.Math.Bool.{true, false}
-use borrow.Author.Tests.{ltb-true}
-use Rattle.std.proofs.Math.Dec.{ltb}
+use Rattle.std.proofs.Common.{sym, ap, ◌∙◌}
+use Rattle.std.specs.Prelude.{List, ℕ, zero, suc, length}
 use Rattle.std.proofs.Math.ListN.{get_or}
-use Rattle.rules.specs.Base.{Got, got, refused, ◌>>◌, need}
-use Rattle.rules.specs.Names.{Bytes, PoolPart, table_of, names_of, tableGiven, nameAsked, start_in, partFrom, partAsked}
+use Rattle.rules.specs.Base.{Got, got, refused}
+use Rattle.rules.specs.Names.{Bytes, PoolPart, table_of, nameAsked, start_in, partFrom, partAsked}
 use Rattle.rules.specs.Numbers.{refusalIn}
-use Rattle.laws.specs.NameTable.{Good, good-laid, given-good, name-asked, start-in, start_at}
+use Rattle.laws.specs.Lists.{clash, same-number}
+use Rattle.laws.specs.NameTable.{good-laid, name-asked, start-in, start_at}
+use Rattle.names.proofs.Asked.{passed-held}
 use Rattle.names.specs.Told.{refusalOf}
 use Rattle.calls_defined.specs.Saying.{word, saidAs, refusedAs}
 use Rattle.library_words.specs.Words.{placeAs}
@@ -31,24 +30,13 @@ said-as x v m q h e f = rw (h, ← e, ← f) (refl)
 
 none_said : (start : ℕ) (x : Got Bytes) (k : ℕ) → refused k ≡ refusalOf x → refusedAs k 0 0 ≡ placeAs x (partFrom start x)
 unfolding partFrom refusalIn
-none_said start (got n) k h = let z : ◌≡◌ {A = ℕ} 0 1 = cc in absurd (omega arith)
-none_said start (refused j) k h = let e : k ≡ j = cc in rw (e) (refl)
+none_said start (got n) k h = clash h
+none_said start (refused j) k h = rw (same-number h) refl
 
 module _ (p t : List ℕ) (i : ℕ) where
-  held : got tt ≡ refusalOf (nameAsked p t i) → Good p t × (i < get_or t 0 0)
-  unfolding nameAsked table_of
-  held h = go (tableGiven p t) refl (ltb i (get_or t 0 0)) refl h
-    where
-      go : (a : Got (Unit {0})) → tableGiven p t ≡ a → (b : Bool) → ltb i (get_or t 0 0) ≡ b
-          → got tt ≡ refusalOf (a >> (need b 3 >> got (get_or (names_of (table_of p t)) i [])))
-          → Good p t × (i < get_or t 0 0)
-      go (refused k) e b f h = let z : ◌≡◌ {A = ℕ} 0 1 = cc in absurd (omega arith)
-      go (got u) e false f h = let z : ◌≡◌ {A = ℕ} 0 1 = cc in absurd (omega arith)
-      go (got u) e true f h = (given-good e, ltb-true i (get_or t 0 0) f)
-
   start_is : got tt ≡ refusalOf (nameAsked p t i) → start_at t i ≡ (partAsked p t i).start
   unfolding partAsked partFrom
-  start_is h = let g = held h in rw (name-asked g.0 i g.1, start-in (good-laid g.0) i g.1)
+  start_is h = let g = passed-held p t i h in rw (name-asked g.0 i g.1, start-in (good-laid g.0) i g.1)
 
   -- what is said of a number that is held, and of one that isn't
   pub placed-held : (v m : ℕ) → got tt ≡ refusalOf (nameAsked p t i) → v ≡ start_at t i → m ≡ word (length (partAsked p t i).bytes)
