@@ -1,7 +1,7 @@
 -- Entries that were placed, as the walks and the checks ask for them.
 use Rattle.std.specs.Prelude.{◌≡◌, ℕ, ◌≤◌, ◌<◌, eqb, length, get_or}
 use Rattle.std.proofs.Math.Path.{refl}
-use Rattle.std.proofs.Common.{ap}
+use Rattle.std.proofs.Common.{ap, sym, ◌∙◌}
 use Rattle.std.proofs.Math.Bool.{true, false, and-eq-true_iff}
 use mathlib.Core.List.{List, [], ◌∷◌, map}
 use Rattle.std.proofs.Math.Option.{Option, none, some}
@@ -14,6 +14,7 @@ use Rattle.rules.specs.Names.{table_of, names_of, is_held}
 use Rattle.rules.specs.Replacing.{find, bindings}
 use Rattle.rules.specs.Trees.{Open, Ty, Binding, ◌≔◌, size}
 use Rattle.rules.specs.WellFormed.{goodTy, goodBinding}
+use Rattle.laws.specs.Lists.{some≢none}
 use Rattle.laws.specs.NameTable.{Good, good-laid}
 use Rattle.laws.specs.Weaker.{ty-weaker}
 use Rattle.records.specs.ByView.{ends-in}
@@ -49,7 +50,7 @@ module _ (pool table types places : List ℕ) (es : List Entry) (bs : List (Bind
       go : Dec (x < 256) → x < 256
       go (yes l) = l
       go (no l) = let f = find-no (names_of (table_of pool table)) x bs (held_below bs x b.good (omega arith))
-          in absurd (let z : ◌≡◌ {A = ℕ} 0 1 = cc in omega arith)
+          in absurd (some≢none (sym e ∙ f))
 
   same_word : (w : ℕ) (m : Option (Ty ℕ)) → tables.SaysAt pool table types w m → SaysAt types w m
   same_word w none h = h
@@ -65,7 +66,7 @@ module _ (pool table types places : List ℕ) (es : List Entry) (bs : List (Bind
   few o t e = go (look o) (word o) e
     where
       go : (m : Option (Ty ℕ)) → SaysAt types (word_of places o) m → m ≡ some t → size t ≤ 2048
-      go none h q = absurd (let z : ◌≡◌ {A = ℕ} 0 1 = cc in omega arith)
+      go none h q = absurd (some≢none (sym q))
       go (some u) h q = let z : u ≡ t = cc in let k = ends-in types u h.at h.held in omega (arith, ap size z)
 
   plain : (o : Open ℕ) (t : Ty ℕ) → look o ≡ some t → goodTy (numbers pool table) (holding pool table) 0 t ≡ true

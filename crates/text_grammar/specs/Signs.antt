@@ -14,7 +14,7 @@ use Rattle.text_grammar.specs.declared.inner.Point.TheVariants as point
 abbrev pub spelled : Bytes → Rule (Unit {0})
 spelled ws = λ p. spell ws (skip p)
 
-bad≢read : {c : ℕ} {p : Place} → ◌≡◌ {A = Parsed (Unit {0})} (bad c) (read tt p) → ⊥
+pub bad≢read : {A : Type 0} {c : ℕ} {a : A} {p : Place} → bad c ≡ read a p → ⊥
 bad≢read e = let z : ◌≡◌ {A = ℕ} 0 1 = cc in omega arith
 
 -- how long a sign is that was read

@@ -7,7 +7,7 @@ use Rattle.std.proofs.lemmas.List.Edits.{sets}
 use Rattle.std.proofs.Math.Seq.{length-sets}
 use Rattle.rules.specs.Names.{Bytes, table_of, names_of}
 use Rattle.rules.specs.Refusals.{number_of}
-use Rattle.rules.specs.Grammar.{Place, here, beyond, read, bad, Rule}
+use Rattle.rules.specs.Grammar.{here, beyond, read, Rule}
 use Rattle.rules.specs.Writing.{Rec, words}
 use Rattle.rules.specs.TextReading.{Sofar, Told, told, refusedAt, Step, onward, give, counted}
 use Rattle.rules.specs.declared.Refusal.{Refusal}
@@ -20,6 +20,7 @@ use Rattle.records.specs.declared.View.{View}
 use Rattle.text_grammar.specs.declared.inner.Point.TheVariants as point
 use Rattle.text_grammar.specs.declared.inner.Point.{Point}
 use Rattle.text_grammar.specs.Points.{Reads, PointIn, from, standing, columnAt, NotAt}
+use Rattle.text_grammar.specs.Signs.{bad≢read}
 use Rattle.text_names.specs.Stands.{Stand, not-both, same-going, same-refused, place_of, countIf, countOf, Above, headPut}
 use Rattle.text_names.specs.Stands as stand
 
@@ -422,9 +423,6 @@ abbrev pub NotBad : Point → Type 0
 NotBad (point.At i) = Unit {0}
 NotBad point.Deep = Unit {0}
 NotBad (point.Bad q) = ⊥
-
-bad≢read : {A : Type 0} {c : ℕ} {a : A} {p : Place} → bad c ≡ read a p → ⊥
-bad≢read e = let z : ◌≡◌ {A = ℕ} 0 1 = cc in omega arith
 
 -- what is not refused now was not refused before
 pub not-bad : {A : Type 0} {P : A → Type 0} {line : Bytes} {p r : Point} {R : Rule A} → Reads line p R P r → NotBad r → NotBad p
