@@ -47,6 +47,20 @@ fn begins(buffer: &[u32], words: &[u32]) -> bool {
     buffer.starts_with(words) && buffer.iter().skip(words.len()).all(|w| *w == RESULT_BEFORE)
 }
 
+/// Does an answer tell what is stored?
+fn tells(answer: &std::result::Result<Read, NotRead>, expected: &Expected) -> bool {
+    match (answer, expected) {
+        (Ok(read), Expected::Read(given)) => {
+            (read.records, read.constraints, read.names)
+                == (given.records, given.constraints, given.fresh)
+        }
+        (Err(stop), Expected::Refused(number, line, column)) => {
+            (stop.why.number(), stop.line, stop.column) == (*number, *line, *column)
+        }
+        (Ok(_), Expected::Refused(..)) | (Err(_), Expected::Read(_)) => false,
+    }
+}
+
 /// Does the call answer, and leave all that is lent, as stored?
 fn holds(alloc: Global, case: &Case) -> Result<bool> {
     let mut table = Table::new(alloc, case, &[])?;
@@ -59,33 +73,19 @@ fn holds(alloc: Global, case: &Case) -> Result<bool> {
         &mut result,
         &mut work,
     );
+    if !tells(&answer, &case.expected) {
+        return Ok(false);
+    }
     match &case.expected {
-        Expected::Read(given) => {
-            let told = match answer {
-                Ok(read) => {
-                    (read.records, read.constraints, read.names)
-                        == (given.records, given.constraints, given.fresh)
-                }
-                Err(_) => false,
-            };
-            Ok(
-                told && table == Table::new(alloc, case, &given.new)?
-                    && begins(&result, &given.words)
-                    && work.iter().all(|w| *w == 0)
-                    && written_holds(alloc, given, &table)?,
-            )
-        }
-        Expected::Refused(number, line, column) => {
-            let told = match answer {
-                Ok(_) => false,
-                Err(stop) => {
-                    (stop.why.number(), stop.line, stop.column) == (*number, *line, *column)
-                }
-            };
+        Expected::Read(given) => Ok(
+            table == Table::new(alloc, case, &given.new)? && begins(&result, &given.words)
+                && work.iter().all(|w| *w == 0)
+                && written_holds(alloc, given, &table)?,
+        ),
+        Expected::Refused(number, ..) => {
             let after = if *number == 10 { WORK_BEFORE } else { 0 };
             Ok(
-                told && table == Table::new(alloc, case, &[])?
-                    && begins(&result, &[])
+                table == Table::new(alloc, case, &[])? && begins(&result, &[])
                     && work.iter().all(|w| *w == after),
             )
         }
