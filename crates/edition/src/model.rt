@@ -61,8 +61,8 @@ pub struct Room {
 impl Room {
     /// All zero.
     pub fn new() -> Room
-        ensures res { result.res ≡ replicate 8192 0 }
-        ensures work { result.work ≡ replicate 16384 0 }
+        ensures result_zero { result.res ≡ replicate 8192 0 }
+        ensures work_zero { result.work ≡ replicate 16384 0 }
     {
         Room {
             res: [0; RECORD_WORDS],
