@@ -14,7 +14,8 @@ module _ {pool table result work : List ℕ} where
   said f = ap (λ (t : Told). served t pool table result work) f
 
   -- an answer, as the rules have it
-  pub told : {A : Type 0} (say : Got A → Told) {t : Told} {m n : Got A} → t ≡ say m → m ≡ n → served t pool table result work ≡ served (say n) pool table result work
+  pub told : {A : Type 0} (say : Got A → Told) {t : Told} {m n : Got A} → t ≡ say m → m ≡ n
+      → served t pool table result work ≡ served (say n) pool table result work
   told say f g = said (f ∙ ap say g)
 
 module _ {pool table : List ℕ} where

@@ -2,11 +2,11 @@
 use mathlib.Core.Path.{◌≡◌, refl, ap, ◌∙◌}
 use mathlib.Core.List.{List}
 use Prim.Native.Nat.{ℕ}
-use native.Mathlib.Omega.{arith}
 use lib.ListN.{length}
 use Rattle.std.proofs.lemmas.List.Edits.{sets}
 use Rattle.rules.specs.Base.{Got, got, refused}
 use Rattle.rules.specs.Names.{Bytes, nameAsked, part_of, start_in, table_of, partFrom, partAsked}
+use Rattle.laws.specs.Lists.{got≢refused, clash, same-number}
 use Rattle.names.specs.Told.{refusalOf}
 use Rattle.calls_defined.specs.Dispatch.{shown, nameAs, naming}
 use Rattle.calls_defined.specs.Saying.{saidAs, refusedAs}
@@ -19,11 +19,11 @@ part-bytes start (refused n) = refl
 
 told-held : (g : Got Bytes) (name : List ℕ) → got tt ≡ refusalOf g → name ≡ part_of g → saidAs 0 0 (length name) ≡ nameAs g
 told-held (got n) name h e = ap (λ (b : List ℕ). saidAs 0 0 (length b)) e
-told-held (refused k) name h e = absurd (let z : ◌≡◌ {A = ℕ} 0 1 = cc in omega arith)
+told-held (refused k) name h e = absurd (got≢refused h)
 
 told-none : (g : Got Bytes) (k : ℕ) → refused k ≡ refusalOf g → refusedAs k 0 0 ≡ nameAs g
-told-none (got n) k h = absurd (let z : ◌≡◌ {A = ℕ} 0 1 = cc in omega arith)
-told-none (refused j) k h = let e : k ≡ j = cc in ap (λ n. refusedAs n 0 0) e
+told-none (got n) k h = clash h
+told-none (refused j) k h = ap (λ n. refusedAs n 0 0) (same-number h)
 
 module _ (pool table : List ℕ) (x : ℕ) (res res' name : List ℕ) (b : name ≡ (partAsked pool table x).bytes) (w : res' ≡ sets res 0 name) where
   bytes-are : name ≡ part_of (nameAsked pool table x)

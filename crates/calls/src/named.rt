@@ -54,7 +54,7 @@ fn put_change(out: &mut [u32], next: usize, i: usize, before: u32, after: u32) -
 
 // The places where two lists differ, and what stands there in the second, from a place of the result buffer on; where the next goes.
 fn put_changes(before: &[u32], after: &[u32], from: usize, res: &mut [u32]) -> usize
-    requires as_long { length before.now ≡ length after.now }
+    requires same_length { length before.now ≡ length after.now }
     requires short { length after.now ≤ 9216 }
     requires near { from ≤ 18433 }
     ensures written { res.new ≡ sets res.old from (changesFrom before.now after.now 0 (length after.now)) }

@@ -38,7 +38,8 @@ pub fn exponent_quotient(a: &[u32]) -> Told
 
 /// The product of two products, whose counts are x and y.
 pub fn product_product(q: Asked, lists: Lists, pool: &[u8], table: &[u32], res: &mut [u32]) -> Told
-    ensures { shown result res.new ≡ productShown (multiplyCall pool.now table.now (productAt lists.entry.a.now q.x) (productAt lists.entry.b.now q.y)) res.old }
+    ensures { shown result res.new
+        ≡ productShown (multiplyCall pool.now table.now (productAt lists.entry.a.now q.x) (productAt lists.entry.b.now q.y)) res.old }
 {
     let p = product_from(lists.a, q.x);
     let r = product_from(lists.b, q.y);
