@@ -1,13 +1,15 @@
 -- A file that is read: its page, and the names that are left.
 use Rattle.std.specs.Prelude.{◌≡◌, refl, List, [], ℕ, Result, Ok, Err}
 use Rattle.rules.specs.Names.{Bytes}
-use Rattle.rules.specs.Reports.{holding, refusing, lacking, page_of}
-use Rattle.rules.specs.TextReading.{Sheet, sheet, refusedIn, sheetRead}
+use Rattle.rules.specs.Reports.{Page, holding, refusing, lacking, page_of}
+use Rattle.rules.specs.TextReading.{Sofar, Sheet, sheet, refusedIn, sheetRead}
+use Rattle.rules.specs.Trees.{Con}
 use Rattle.rules.specs.declared.Unseen.{Unseen}
 use Rattle.laws.specs.NameTable.{Good}
 use Rattle.text_columns.specs.Left.{read-back, read-keeps-good}
 use Rattle.text_sheet.specs.declared.Read.{Read}
 use Rattle.text_sheet.specs.declared.NotRead as stop
+use Rattle.edition.specs.Pages.{Holds, IsPage}
 use Rattle.edition.specs.Files.{text_of, FileRead}
 use Rattle.edition.specs.Sheets.{ReadTo}
 use Rattle.edition.specs.declared.model.Content as kind
@@ -19,6 +21,26 @@ use Rattle.edition.specs.declared.model.Sheet as kept
 abbrev pub contentOf : Result Read stop.NotRead → kind.Content
 contentOf (Ok r) = content.Set r
 contentOf (Err e) = content.Refused e
+
+-- the page of a text that was read, or refused
+module _ (pool table pool' table' : List ℕ) (name text : Bytes) (ws : List ℕ) where
+  set-holds : (cs : List (Con ℕ)) (s : Sofar) → sheetRead pool table text ≡ sheet cs s → (r : Read) → ReadTo pool table pool' table' ws (Ok r) (sheet cs s)
+      → Holds (content.Set r) ws (record { name = name; text = text; new = s.fresh; content = holding cs })
+  set-holds cs s q r h = (cs, (refl, (record { is = h.is; many = h.many; back = λ t ds e. read-back pool table text q t ds (rw h.is at e) }, h.new)))
+
+  pub read-page : (r : Result Read stop.NotRead) → ReadTo pool table pool' table' ws r (sheetRead pool table text)
+      → (p : Page) × IsPage name text (contentOf r) ws p
+  read-page r h = go (sheetRead pool table text) refl r h
+    where
+      go : (m : Sheet) → sheetRead pool table text ≡ m → (r : Result Read stop.NotRead) → ReadTo pool table pool' table' ws r m
+          → (p : Page) × IsPage name text (contentOf r) ws p
+      go (sheet cs s) q (Ok r) h = (_, record { named = refl; typed = refl; holds = set-holds cs s q r h })
+      go (sheet cs s) q (Err e) h = absurd h
+      go (refusedIn n l k) q (Ok r) h = absurd h
+      go (refusedIn n l k) q (Err e) h = (
+        record { name = name; text = text; new = 0; content = refusing n l k },
+        record { named = refl; typed = refl; holds = rw (h.why, h.line, h.column) (refl, refl) },
+      )
 
 module _ {pool table : List ℕ} (good : Good pool table) (file : File) (pool' table' : List ℕ) (x : kept.Sheet) (named : x.name.now ≡ file.name.now) where
   pub set-read : (text : Bytes) → text_of file ≡ Ok text → x.text.now ≡ text → (r : Read) → x.content ≡ content.Set r
@@ -32,7 +54,7 @@ module _ {pool table : List ℕ} (good : Good pool table) (file : File) (pool' t
         is = record {
           named = named;
           typed = typed;
-          holds = rw c (cs, (refl, (record { is = h.is; many = h.many; back = λ t ds e. read-back pool table text q t ds (rw h.is at e) }, h.new)));
+          holds = rw c (set-holds pool table pool' table' file.name.now text x.records.items cs s q r h);
         };
         after = λ f. rw (given, q, h.pools, h.tables) refl;
         good = rw (h.pools, h.tables) (read-keeps-good pool table text good q).0;

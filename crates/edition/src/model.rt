@@ -1,6 +1,7 @@
 //! Files of an edition, and their sheets as they were read.
 ghost use Rattle.std.specs.Prelude.{◌≡◌, replicate};
-ghost use Rattle.edition.specs.Pages.{constraintsOf, namesOf};
+ghost use Rattle.rules.specs.Reports.{Page as PageRead};
+ghost use Rattle.edition.specs.Pages.{IsPage, constraintsOf, namesOf};
 
 use rules::{RECORD_WORDS, Shown, Unseen, WORK_WORDS};
 use text_sheet::{NotRead, Read};
@@ -42,13 +43,15 @@ impl Content {
     }
 }
 
-/// A sheet as it was read: its file's name and text (empty where it can't be had), what it holds, and the records of its set.
+/// A sheet as it was read: its file's name and text (empty where it can't be had), what it holds, and the records of its set. It carries its page, so that
+/// what is told of a sheet is told of a page.
 #[derive(Drop)]
 pub struct Sheet<'a> {
     pub name: &'a [u8],
     pub text: &'a [u8],
     pub content: Content,
     pub records: Vec<u32>,
+    ghost page: { ∥ ((p : PageRead) × IsPage name.now text.now content records.items p) ∥₁ },
 }
 
 /// Room to solve and judge a set in: 2,048 records for what is found, and words to work on.
