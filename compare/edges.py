@@ -343,7 +343,7 @@ def sheets():
 
 
 def kinds_differ():
-    """W-205: where kinds differ, one variable to the power 1 counts as a variable, on either side"""
+    """Where kinds differ, one variable to the power 1 counts as a variable, on either side"""
     for t in ('(bool)', '(list (var y))', '(fn () (bool))', '(struct P () ())', '(var y)', '(par b)'):
         for d in ('(dim (v x 1 1))', '(dim (v x 2 1))', '(dim (v x 1 1) (v y 1 1))', '(dim (p a 1 1))', '(dim)'):
             yield 'a dimension and another kind', of('add (eq %s %s)' % (d, t))
@@ -401,7 +401,7 @@ def new_records():
 
 
 def false_lengths():
-    """one record says a false length (W-206): always 1"""
+    """one record says a false length: always 1"""
     names = ('P', 'x', 'a', 'f', 'g')
     for call, words in GOOD.items():
         right = Request(call, names, [words]).sent()[0]

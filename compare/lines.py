@@ -1,5 +1,5 @@
 #!/usr/bin/env python3
-"""Calculation lines (W-211) once more: what the steps issue, and the answer, over the solver and the judge of model.py. own.py makes the line cases of
+"""Calculation lines once more: what the steps issue, and the answer, over the solver and the judge of model.py. own.py makes the line cases of
 calls_run from `cases`. lines.py SERVE COUNT SEED compares random lines, some with open references; SERVE is the program `serve`."""
 import os, random, sys
 from fractions import Fraction as F

@@ -1,6 +1,6 @@
 #!/usr/bin/env python3
 """The list of cases of sheets_run: make_sheets.py > crates/sheets_run/stdin
-Sheets as text, read and written as W-202 asks. The answers are those of the reader and the writer in this file, which were written from docs/GRAMMAR.md and
+Sheets as text, read and written as docs/GRAMMAR.md asks. The answers are those of the reader and the writer in this file, which were written from docs/GRAMMAR.md and
 the rules alone. crates/sheets_run/README.md has the form of the list."""
 import sys
 from fractions import Fraction

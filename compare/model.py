@@ -1,5 +1,5 @@
 #!/usr/bin/env python3
-"""The rules, with request W-205, once more, in Python, answering cases that are written as lines of text: with DEV empty as the rules stand, with
+"""The rules, with the request on adding, once more, in Python, answering cases that are written as lines of text: with DEV empty as the rules stand, with
 deviations of numbat switched on as numbat does. Used to say which difference of docs/DIFFERENCES.md explains a case, never as the
 only judge of one. It leaves well-formedness, buffers and the order of refusals at entry to the harness.
   params   closed does not count parameters; is-dimension/equal of closed types with parameters decided at once

@@ -1,4 +1,4 @@
--- Word 0 of a record (W-206): kind and length are had back from it, and it is made of them; a part that is read lasts as long as it says.
+-- Word 0 of a record: kind and length are had back from it, and it is made of them; a part that is read lasts as long as it says.
 use Rattle.std.specs.Prelude.{◌≡◌, List, ◌∷◌, ◌++◌, ℕ, suc, ◌+◌, ◌<◌, length}
 use Rattle.std.proofs.Common.{arith, eq-eqb, length-append}
 use Rattle.std.proofs.Math.Option.{some}

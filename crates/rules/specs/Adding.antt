@@ -1,4 +1,4 @@
--- What adding a constraint answers, as request W-205 has it.
+-- What adding a constraint answers.
 use Rattle.std.specs.Prelude.{Bool, true, false, not, ◌&&◌, ◌||◌, List, [], ◌∷◌, ◌++◌, eqb}
 use Rattle.std.proofs.Math.Option.{Option, none, some}
 use Rattle.rules.specs.Base.{Got, got, bounded, within, is_yes, is_none, isNil, collect, sum_of}
@@ -25,7 +25,7 @@ module _ {N : Type 0} where
   countsDiffer (some f) none = false
   countsDiffer (some f) (some g) = not (eqb (count f.0) (count g.0))
 
-  -- neither a variable nor a parameter; 'a dimension that is one variable to the power 1 counts as a variable here' (W-205)
+  -- neither a variable nor a parameter; 'a dimension that is one variable to the power 1 counts as a variable here'
   unfoldable pub solid : Ty N → Bool
   solid t = is_none (openOf t) && is_none (asPower t)
 

@@ -1,4 +1,4 @@
--- W-201: several sets over one name table, back to back, solved in one call.
+-- Several sets over one name table, back to back, solved in one call.
 use Rattle.std.specs.Prelude.{List, [], ◌∷◌, map, ℕ, ◌+◌, ◌*◌, eqb, leb, length, take, drop}
 use Rattle.rules.specs.Base.{Got, got, refused, ◌>>=◌, ◌>>◌, need, collect, sum_of}
 use Rattle.rules.specs.Names.{Table, table_of, lentTable}

@@ -137,7 +137,7 @@ nestedIn : map (λ (n : ℕ). is_set (rec 21 0 0 0 ∷ replicate n seq ++ bool �
 unfolding rules counting pool table
 nestedIn = refl
 
--- W-206: K2's records with their lengths
+-- K2's records with their lengths
 secondExample : sized (eq ∷ v x ∷ bool ∷ []) ≡ rec (20 + 3 * 65_536) 0 0 0 ∷ rec (1 + 65_536) x 0 0 ∷ rec (4 + 65_536) 0 0 0 ∷ []
 unfolding rules counting
 secondExample = refl
@@ -409,7 +409,7 @@ solving : map solves (
 unfolding rules counting pool table
 solving = refl
 
--- W-208, V: none; x twice and y are two; a parameter is none; x as variable and parameter is one, where solving is 4; a type is no set
+-- The ceiling's V: none; x twice and y are two; a parameter is none; x as variable and parameter is one, where solving is 4; a type is no set
 ceilings : map (λ (rs : List Rec). ceilingCall pool table (sizedWords rs)) (
     []
     ∷ (eq ∷ v x ∷ seq ∷ v y ∷ eq ∷ v y ∷ v x ∷ [])

@@ -1,4 +1,4 @@
--- W-208: a ceiling on rounds, to set a watchdog by.
+-- A ceiling on rounds, to set a watchdog by.
 use Rattle.std.specs.Prelude.{List, ℕ, ◌+◌, ◌*◌, length}
 use Rattle.rules.specs.Base.{Got, got, ◌>>=◌, ◌>>◌, collect}
 use Rattle.rules.specs.Trees.{Names, Con, opensCon}

@@ -1,4 +1,4 @@
--- W-210: choices of dimensions for the variables, and when a choice makes a constraint true. Nothing of the solver and nothing
+-- Choices of dimensions for the variables, and when a choice makes a constraint true. Nothing of the solver and nothing
 -- of replacing is used.
 use Rattle.std.specs.Prelude.{◌≡◌, refl, Bool, true, false, not, ◌&&◌, ℕ, zero, suc, leb, eqb, pos, negsuc, nat_abs}
 use mathlib.Core.List.{List, [], ◌∷◌, ◌++◌, Memᴰ}
@@ -95,7 +95,7 @@ module _ {N : Type 0} where
 -- ══ When a choice makes constraints true ══
 
 module _ {N : Type 0} where
-  -- the constraints that W-210 speaks of: 'equal-scalar or an equality of two dimensions'
+  -- the constraints that it speaks of: 'equal-scalar or an equality of two dimensions'
   unfoldable pub dimensional : Con N → Bool
   dimensional (equal s t) = not (is_none (productOf s)) && not (is_none (productOf t))
   dimensional (isDim t) = false

@@ -1,4 +1,4 @@
--- W-213: room back in the name table. Names that occur in no set are dropped, the others move up and the sets are renumbered.
+-- Compaction: room back in the name table. Names that occur in no set are dropped, the others move up and the sets are renumbered.
 use Rattle.std.specs.Prelude.{
   ◌≡◌,
   Bool,

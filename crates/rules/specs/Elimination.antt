@@ -1,4 +1,4 @@
--- W-209: a plain second engine for dimensions. Sets of equal-scalar constraints alone are laid out as rows of powers, over
+-- A plain second engine for dimensions. Sets of equal-scalar constraints alone are laid out as rows of powers, over
 -- columns in the order of factors, and eliminated row by row; the counts are limits of the call, not of the rules for rows.
 use Rattle.std.specs.Prelude.{Bool, true, false, not, ◌&&◌, List, [], ◌∷◌, ◌++◌, map, ℕ, zero, suc, leb, length, get_or, set}
 use Rattle.rules.specs.Base.{Got, got, refused, ◌>>=◌, ◌>>◌, need, bounded, is_yes, keep, each, collect, sum_of}

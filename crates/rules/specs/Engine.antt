@@ -1,4 +1,4 @@
--- Every definition of W-209 under one name, with those of the other requests: for proofs by computation.
+-- Every definition of the second engine under one name, with those of the other requests: for proofs by computation.
 use Rattle.rules.specs.Rules.{rules}
 use Rattle.rules.specs.Elimination.{
   solvedFor,

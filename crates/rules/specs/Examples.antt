@@ -120,7 +120,7 @@ examples =
       records = rec 25 x 0 0 ∷ rec 25 y 0 0 ∷ [];
       judged = some true;
     }
-    -- K9: dimension x = boolean; added, it is Unknown (W-205)
+    -- K9: dimension x = boolean; added, it is Unknown
     ∷ record {
       set = rec 20 0 0 0 ∷ rec 3 1 0 0 ∷ rec 11 x 1 1 ∷ rec 4 0 0 0 ∷ [];
       added = got unknown;

@@ -1,4 +1,4 @@
--- W-202: the grammar of sheets as text, in the order of docs/GRAMMAR.md. A rule takes a place in a line to what stands there,
+-- The grammar of sheets as text, in the order of docs/GRAMMAR.md. A rule takes a place in a line to what stands there,
 -- as a tree with columns, and the place behind it; or to the column of the first byte that fits nothing.
 use Rattle.std.specs.Prelude.{Bool, true, false, ◌&&◌, ◌||◌, List, [], ◌∷◌, map, ℕ, zero, suc, ◌+◌, ◌-◌, ◌*◌, eqb, leb, ℤ, pos, neg_ℤ, length}
 use Rattle.std.proofs.Math.Option.{Option, none, some}

@@ -1,4 +1,4 @@
--- For the cases: records written with their kind alone, and the lengths of W-206 put in. The lengths are counted from the records, by how many parts
+-- For the cases: records written with their kind alone, and the lengths of parts put in. The lengths are counted from the records, by how many parts
 -- each kind says follow it, and not by the trees' sizes that the definitions use.
 use Rattle.std.specs.Prelude.{List, [], ◌∷◌, ℕ, zero, suc, ◌+◌, eqb, length, true, false}
 use Rattle.rules.specs.Writing.{Rec, rec, head, words}

@@ -1,4 +1,4 @@
--- W-211: the constraints that the steps of a line issue, and the call that checks a whole line.
+-- The constraints that the steps of a line issue, and the call that checks a whole line.
 use Rattle.std.specs.Prelude.{Bool, true, false, not, ◌&&◌, List, [], ◌∷◌, ◌++◌, ℕ, ◌*◌, eqb, leb, length}
 use Rattle.std.proofs.Math.Option.{Option, none, some}
 use Prim.Native.Nat.{Ordering}

@@ -1,4 +1,4 @@
--- The pool, the table, entering a name and asking for one. W-204: entering says whether a name is new.
+-- The pool, the table, entering a name and asking for one. Entering says whether a name is new.
 use Rattle.std.specs.Prelude.{Bool, true, false, not, ◌&&◌, List, [], ◌∷◌, ◌++◌, leb, ltb, length, take, drop, get_or, set}
 use Rattle.std.proofs.Math.Option.{Option, none, some}
 use Prim.Native.Nat.{ℕ, zero, suc, ◌+◌, ◌-◌, compare, Ordering}
@@ -91,7 +91,7 @@ unfoldable pub number_of : ℕ → Bytes → List Bytes → Option ℕ
 number_of i n [] = none
 number_of i n (m ∷ ms) = elim (sameBytes n m) [ true ↦ some i | false ↦ number_of (suc i) n ms ]
 
--- what entering answers, and what pool and table hold afterwards. W-204: 'the answer carries the number and new or known'
+-- what entering answers, and what pool and table hold afterwards: 'the answer carries the number and new or known'
 pub record Entered : Type 0 where
   pub answer : Got (ℕ × Was)
   pub pool : List ℕ
@@ -133,7 +133,7 @@ enterNew pool table name = record {
     free : ℕ
     free = used 0 (held (table_of pool table))
 
--- 'equal bytes get the same number, also when the table is full', and W-204 'says known' there too; else 3, or the name is new
+-- 'equal bytes get the same number, also when the table is full', and it 'says known' there too; else 3, or the name is new
 unfoldable pub enterKnown : Option ℕ → Bool → List ℕ → List ℕ → Bytes → Entered
 enterKnown (some i) room pool table name = unchanged pool table (got (i, Known))
 enterKnown none false pool table name = unchanged pool table (refused 3)

@@ -1,4 +1,4 @@
--- W-207: a second office on the same names. Lists with names in place of numbers, and what each office enters.
+-- A second office on the same names. Lists with names in place of numbers, and what each office enters.
 use Rattle.std.specs.Prelude.{◌≡◌, Bool, true, false, not, ◌&&◌, ◌||◌, List, [], ◌∷◌, ◌++◌, map, ℕ, ◌+◌, ◌*◌, eqb, leb, ltb, length, take, get_or}
 use Rattle.std.proofs.Math.Option.{Option, none, some}
 use Rattle.std.proofs.Math.Decide.{ℕ_discrete}
@@ -221,13 +221,13 @@ abbrev pub frontTold : Got ℕ → ℕ → List ℕ → List ℕ
 frontTold (got m) n buffer = take (n * 4) buffer
 frontTold (refused k) n buffer = []
 
--- a batch of n sets (W-201): the same count or refusal, the same four words for each set, and records that read alike
+-- a batch of n sets: the same count or refusal, the same four words for each set, and records that read alike
 pub record BatchAlike (t t' : Table) (n : ℕ) (b b' : Batch) : Type 0 where
   pub answer : b.answer ≡ b'.answer
   pub told : frontTold b.answer n b.answers ≡ frontTold b'.answer n b'.answers
   pub records : ReadAlike t t' (front b.answer b.result) (front b'.answer b'.result)
 
--- the second engine (W-209)
+-- the second engine
 abbrev pub frontEliminated : Eliminated → List ℕ → List ℕ
 frontEliminated (allBound n) buffer = take (n * 4) buffer
 frontEliminated (someLeft n) buffer = take (n * 4) buffer
@@ -238,7 +238,7 @@ pub record EliminatedAlike (t t' : Table) (e e' : Elimination) : Type 0 where
   pub answer : e.answer ≡ e'.answer
   pub records : ReadAlike t t' (frontEliminated e.answer e.result) (frontEliminated e'.answer e'.result)
 
--- a set written as text (W-202): the same count or refusal, and the same bytes
+-- a set written as text: the same count or refusal, and the same bytes
 pub record TextAlike (w w' : Listed) : Type 0 where
   pub answer : w.answer ≡ w'.answer
   pub bytes : frontListed w.answer w.result ≡ frontListed w'.answer w'.result
@@ -256,7 +256,7 @@ abbrev pub frontRead : ReadAnswer → List ℕ → List ℕ
 frontRead (wasRead records constraints fresh) buffer = take (records * 4) buffer
 frontRead (notRead n l c) buffer = []
 
--- a sheet that was read (W-202): as many records and constraints, which read alike, each over its table with the names that were entered;
+-- a sheet that was read: as many records and constraints, which read alike, each over its table with the names that were entered;
 -- or the same refusal, at the same line and column
 pub record TextReadAlike (r r' : TextRead) : Type 0 where
   pub answer : newAside r.answer ≡ newAside r'.answer
@@ -271,7 +271,7 @@ abbrev pub frontSkipped : Got (ℕ × ℕ) → List ℕ → List ℕ
 frontSkipped (got v) buffer = take v.1 buffer
 frontSkipped (refused k) buffer = []
 
--- a rescued file (W-212): the same counts or refusal, the kept records read alike, and the same places were skipped
+-- a rescued file: the same counts or refusal, the kept records read alike, and the same places were skipped
 pub record RescuedAlike (t t' : Table) (r r' : Rescued) : Type 0 where
   pub answer : r.answer ≡ r'.answer
   pub kept : ReadAlike t t' (words_in (frontKept r.answer r.kept)) (words_in (frontKept r'.answer r'.kept))
@@ -416,7 +416,7 @@ unfoldable pub namesBy : Office → List Entering → List Bytes
 namesBy o [] = []
 namesBy o (e ∷ es) = elim (sameOffice o e.by) [ true ↦ e.name ∷ namesBy o es | false ↦ namesBy o es ]
 
--- the number that an entry is answered, or its refusal; new or known (W-204) may differ
+-- the number that an entry is answered, or its refusal; new or known may differ
 abbrev pub answered : Shared → Bytes → Got ℕ
 answered s n = mapGot (λ a. a.0) (enter s.pool s.table n).answer
 

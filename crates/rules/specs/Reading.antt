@@ -68,7 +68,7 @@ abbrev pub ifSo : {A : Type 0} → Bool → Option A → Option A
 ifSo true o = o
 ifSo false o = none
 
--- W-206: of m records, a part that says to be n long was read, and takes n
+-- Of m records, a part that says to be n long was read, and takes n
 abbrev pub lasting : {A : Type 0} → ℕ → ℕ → Option (A × List Rec) → Option (A × List Rec)
 lasting n m none = none
 lasting n m (some r) = ifSo (eqb (n + length r.1) m) (some r)

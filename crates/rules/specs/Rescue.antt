@@ -1,4 +1,4 @@
--- W-212: rescue of damaged set files.
+-- Rescue of damaged set files.
 use Rattle.std.specs.Prelude.{Bool, true, false, ◌&&◌, List, [], ◌∷◌, ◌++◌, map, ℕ, zero, suc, ◌+◌, ◌*◌, ◌/◌, ◌%◌, eqb, leb, length}
 use Rattle.std.proofs.Math.Option.{Option, none, some}
 use Rattle.rules.specs.Base.{Got, got, ◌>>=◌, ◌>>◌, need, only_if, and_then}

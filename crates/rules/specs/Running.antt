@@ -1,4 +1,4 @@
--- W-211: the run of a line on types alone, in exact powers. It knows neither the constraints nor the solver.
+-- The run of a line on types alone, in exact powers. It knows neither the constraints nor the solver.
 use Rattle.std.specs.Prelude.{Bool, true, false, List, [], ◌∷◌, ℕ}
 use Rattle.std.proofs.Math.Option.{Option, none, some}
 use Rattle.rules.specs.Base.{Got, got, refused, exact}

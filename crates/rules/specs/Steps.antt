@@ -1,4 +1,4 @@
--- W-211: the steps of a calculation line in postfix order, and what makes a line well formed.
+-- The steps of a calculation line in postfix order, and what makes a line well formed.
 use Rattle.std.specs.Prelude.{Bool, true, false, ◌&&◌, List, [], ◌∷◌, ℕ, zero, suc, ◌-◌, eqb, leb}
 use Rattle.std.proofs.Math.Option.{Option, none, some}
 use Rattle.rules.specs.Base.{Got, got, ◌>>=◌, ◌>>◌, need, orRefuse, all, each}

@@ -1,4 +1,4 @@
--- W-202: what a line means, and the call that reads a sheet. docs/GRAMMAR.md, 'What a line means' and 'Refusals'.
+-- What a line means, and the call that reads a sheet. docs/GRAMMAR.md, 'What a line means' and 'Refusals'.
 use Rattle.std.specs.Prelude.{true, false, ◌&&◌, List, [], ◌∷◌, ◌++◌, ℕ, suc, ◌+◌, leb, length}
 use Rattle.std.proofs.Math.Option.{Option, none, some}
 use Rattle.rules.specs.Base.{Got, got, refused, need, allow, bounded, collect, sum_of}

@@ -1,4 +1,4 @@
--- W-202: how a set is written as text, and the call that does so. docs/GRAMMAR.md, 'The writer'.
+-- How a set is written as text, and the call that does so. docs/GRAMMAR.md, 'The writer'.
 use Rattle.std.specs.Prelude.{Bool, true, false, List, [], ◌∷◌, ◌++◌, ℕ, zero, suc, ◌+◌, ◌/◌, ◌%◌, eqb, leb, ltb, ℤ, pos, negsuc, length, get_or}
 use Prim.Native.Char.{code}
 use Rattle.rules.specs.Base.{Got, got, ◌>>=◌, ◌>>◌, need, is_yes, collect}

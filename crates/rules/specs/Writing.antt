@@ -44,7 +44,7 @@ use Rattle.rules.specs.Views.{kindOpen, kindBasic}
 pub data Rec : Type 0 where
   rec : ℕ → ℕ → ℕ → ℕ → Rec
 
--- W-206: 'word 0 of a record is its kind plus 65,536 times the number of records of the part that it begins', and both back
+-- 'word 0 of a record is its kind plus 65,536 times the number of records of the part that it begins', and both back
 unfoldable pub head : ℕ → ℕ → ℕ
 head kind long = kind + 65_536 * long
 

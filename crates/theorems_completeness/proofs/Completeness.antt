@@ -1,4 +1,4 @@
--- Choosing (W-210): refused only when there is none. For sets in which every constraint is equal-scalar or an equality of two dimensions:
+-- Choosing: refused only when there is none. For sets in which every constraint is equal-scalar or an equality of two dimensions:
 -- 5 means that no choice of dimensions makes all true, and an accepted answer gives all choices that do. The same for wide sets, whose sides may be
 -- variables and in which is-dimension may stand. The words stand in Claims and in rules' Choices, the proofs in the other files.
 use Rattle.std.specs.Prelude.{◌≡◌, Bool, true, ◌⊎◌, ℕ}

@@ -1,4 +1,4 @@
--- The words of the theorems: the sets that W-210 speaks of, and what is said of an accepted answer. Choices stand in rules' Choices.
+-- The words of the theorems: the sets that the theorem speaks of, and what is said of an accepted answer. Choices stand in rules' Choices.
 use Rattle.std.specs.Prelude.{◌≡◌, Bool, true, ◌⊎◌, ℕ, ◌≤◌, length}
 use Rattle.std.proofs.Math.Option.{some}
 use mathlib.Core.List.{List, ◌++◌, map, Memᴰ}

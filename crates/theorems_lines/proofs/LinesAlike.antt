@@ -1,4 +1,4 @@
--- W-207 for lines: over two good tables, types and lent names that read alike are answered alike, with the same steps and places.
+-- Offices' lines: over two good tables, types and lent names that read alike are answered alike, with the same steps and places.
 use Rattle.std.specs.Prelude.{◌≡◌, Bool, true, false, not, ◌&&◌, ℕ, ◌*◌, eqb, leb, length}
 use Rattle.std.proofs.Math.Path.{refl, ap₂}
 use Rattle.std.proofs.Common.{ap, sym, ◌∙◌}

@@ -1,4 +1,4 @@
--- A line with other names in it, lent ones too: the same answer with other names in it, where the order of names is kept (W-207's law).
+-- A line with other names in it, lent ones too: the same answer with other names in it, where the order of names is kept (the law of offices).
 use Rattle.std.specs.Prelude.{◌≡◌, Bool, ◌&&◌}
 use Rattle.std.proofs.Math.Path.{refl, ap, sym}
 use Rattle.std.proofs.Common.{ap₂, ◌∙◌}

@@ -1,4 +1,4 @@
--- W-207: two offices that share one table of names. Each statement is for every pool, table, list and history.
+-- Two offices that share one table of names. Each statement is for every pool, table, list and history.
 use Rattle.std.specs.Prelude.{◌≡◌, refl, true, List, [], ◌∷◌, map, ℕ, length}
 use Rattle.std.proofs.Common.{ap, sym, ◌∙◌, ltb-true}
 use Rattle.rules.specs.Base.{Got, got, refused, collect}

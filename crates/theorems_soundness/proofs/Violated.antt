@@ -1,4 +1,4 @@
--- What adding's Violated is worth (request W-205): a line that is shown as final. The words stand in Excepted, the proofs in Unmet, the sets in Instances.
+-- What adding's Violated is worth (the request on adding): a line that is shown as final. The words stand in Excepted, the proofs in Unmet, the sets in Instances.
 use Rattle.std.specs.Prelude.{◌≡◌, Bool, true, false, ℕ}
 use Rattle.std.proofs.Common.{sym, ap, ◌∙◌}
 use mathlib.Core.List.{List, [], ◌∷◌, Memᴰ}

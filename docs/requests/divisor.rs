@@ -1,5 +1,5 @@
-// W-203: both ways to find the greatest common divisor, as they stand in Rattle, on the same operands in one run.
-// rustc -O W-203.rs && ./W-203 prints turns of the loop and time, each as a ratio of new to old.
+// Both ways to find the greatest common divisor, as they stand in Rattle, on the same operands in one run.
+// rustc -O divisor.rs && ./divisor prints turns of the loop and time, each as a ratio of new to old.
 use std::hint::black_box;
 use std::time::Instant;
 
