@@ -7,6 +7,7 @@ use Rattle.rules.specs.Plain.{plain}
 use Rattle.rules.specs.Trees as tree
 use Rattle.rules.specs.Trees.{Product, Names, Ty, opened, basic, dim, fn, struct, list, Tys, nil, cons, noFields, count, ty-dec}
 use Rattle.laws.specs.Lists.{true≢false, yes-is, is-yes, is-no}
+use Rattle.records.proofs.Walks.{open-there, basic-there}
 use Rattle.records.specs.Holds.{openOf, viewOpen, basicOf, viewBasic}
 use Rattle.records.specs.declared.Open as names
 use Rattle.records.specs.declared.Basic as basics
@@ -56,16 +57,6 @@ module _ {r : Bool} (ν : Names ℕ) (x y : Ty ℕ) where
 
 -- ══ Two of a kind ══
 
-view-back : (o : names.Open) → viewOpen (openOf o) ≡ o
-view-back (names.TheVariants.Var x) = refl
-view-back (names.TheVariants.Quant i) = refl
-view-back (names.TheVariants.Par x) = refl
-
-basic-back : (b : basics.Basic) → viewBasic (basicOf b) ≡ b
-basic-back basics.TheVariants.Boolean = refl
-basic-back basics.TheVariants.Text = refl
-basic-back basics.TheVariants.Datetime = refl
-
 abbrev basicTy : basics.Basic → Ty ℕ
 basicTy b = basic (basicOf b)
 
@@ -92,13 +83,13 @@ module _ {r : Bool} where
   opens-same o p d = decides-as (λ e. ap (λ z. opened (openOf z)) e) back d
     where
       back : opened (openOf o) ≡ opened (openOf p) → o ≡ p
-      back e = let z : openOf o ≡ openOf p = cc in sym (view-back o) ∙ ap viewOpen z ∙ view-back p
+      back e = let z : openOf o ≡ openOf p = cc in sym (open-there o) ∙ ap viewOpen z ∙ open-there p
 
   pub basics-same : (a b : basics.Basic) → Decides r (a ≡ b) → Decides r (basicTy a ≡ basicTy b)
   basics-same a b d = decides-as (ap basicTy) back d
     where
       back : basicTy a ≡ basicTy b → a ≡ b
-      back e = let z : basicOf a ≡ basicOf b = cc in sym (basic-back a) ∙ ap viewBasic z ∙ basic-back b
+      back e = let z : basicOf a ≡ basicOf b = cc in sym (basic-there a) ∙ ap viewBasic z ∙ basic-there b
 
   pub lists-same : {t u : Ty ℕ} → Decides r (t ≡ u) → Decides r (list t ≡ list u)
   lists-same d = decides-as (ap list) (λ e. cc) d

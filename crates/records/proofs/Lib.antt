@@ -1,5 +1,5 @@
 -- What the proofs of several functions use.
-mod Walks
+pub mod Walks
 mod Closing
 mod Parts
 mod Wholes

@@ -111,7 +111,7 @@ atom-there : (a : atoms.Atom) → viewAtom (atomOf a) ≡ a
 atom-there (atoms.TheVariants.Free o) = ap atoms.TheVariants.Free (open-there o)
 atom-there (atoms.TheVariants.Base x) = refl
 
-basic-there : (b : basics.Basic) → viewBasic (basicOf b) ≡ b
+pub basic-there : (b : basics.Basic) → viewBasic (basicOf b) ≡ b
 basic-there basics.TheVariants.Boolean = refl
 basic-there basics.TheVariants.Text = refl
 basic-there basics.TheVariants.Datetime = refl
