@@ -1,5 +1,5 @@
 // Room to read a sheet in.
-ghost use Rattle.std.specs.Prelude.{◌≡◌, List, ℕ, length, IfOk, Some};
+ghost use Rattle.std.specs.Prelude.{◌≡◌, List, ℕ, length, replicate, IfOk, Some};
 ghost use Rattle.edition_checks.specs.Given.{IsSheetOf};
 
 use filling::fill_front;
@@ -13,13 +13,15 @@ const SHEET_BYTES: usize = 1_048_576;
 /// Room for the bytes of a sheet, and for one that is too many.
 #[derive(Drop)]
 pub struct Front {
-    bytes: Vec<u8>,
+    pub bytes: Vec<u8>,
     ghost wide: { length bytes.items ≡ 1048577 },
 }
 
 impl Front {
     /// All zero.
-    pub fn new(alloc: Global) -> Result<Front, AllocError> {
+    pub fn new(alloc: Global) -> Result<Front, AllocError>
+        ensures { IfOk result (λ f. f.bytes.items ≡ replicate 1048577 0) }
+    {
         let bytes = vec![in alloc; 0u8; SHEET_BYTES + 1]?;
         Ok(Front { bytes })
     }

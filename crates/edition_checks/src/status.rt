@@ -1,5 +1,5 @@
 // What a run comes to, and its exit status.
-ghost use Rattle.std.specs.Prelude.{◌≡◌, ◌||◌, ◌&&◌, ltb, if◌then◌else◌};
+ghost use Rattle.std.specs.Prelude.{◌≡◌, ◌||◌, ◌&&◌, ◌+◌, ◌-◌, ◌^◌, min, ltb, if◌then◌else◌};
 ghost use Rattle.edition_checks.specs.Status.{code_of};
 
 /// What was counted: sheets, those that are accepted, the names of the fullest table, and notes.
@@ -21,11 +21,20 @@ impl Totals {
     };
 
     /// With a sheet more: is it accepted (1) or not (0), how many names has its table, and how many notes are there?
-    pub fn and(self, accepted: usize, names: usize, notes: usize) -> Totals {
+    pub fn and(self, accepted: usize, names: usize, notes: usize) -> Totals
+        ensures sheets { result.sheets ≡ min (self.sheets + 1) (2 ^ 64 - 1) }
+        ensures accepted { result.accepted ≡ min (self.accepted + accepted) (2 ^ 64 - 1) }
+        ensures names { result.names ≡ (if ltb self.names names then names else self.names) }
+        ensures notes { result.notes ≡ min (self.notes + notes) (2 ^ 64 - 1) }
+    {
         Totals {
             sheets: self.sheets.saturating_add(1),
             accepted: self.accepted.saturating_add(accepted),
-            names: self.names.max(names),
+            names: if self.names < names {
+                names
+            } else {
+                self.names
+            },
             notes: self.notes.saturating_add(notes),
         }
     }

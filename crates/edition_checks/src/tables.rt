@@ -1,5 +1,5 @@
 // Sheets read over a name table that is empty at first.
-ghost use Rattle.std.specs.Prelude.{◌≡◌, replicate, IfOk};
+ghost use Rattle.std.specs.Prelude.{◌≡◌, replicate, get_or, IfOk};
 ghost use Rattle.edition.specs.Files.{ReadAll};
 
 use anyhow::{Result, bail};
@@ -39,7 +39,9 @@ impl Tables {
     }
 
     /// How many names are held.
-    pub fn count(&self) -> usize {
+    pub fn count(&self) -> usize
+        ensures { result ≡ get_or self.now.table.items 0 0 }
+    {
         match self.table.first() {
             Some(count) => *count as usize,
             None => 0,

@@ -1,5 +1,6 @@
 -- What is said of files by a certificate, with nothing solved.
-use Rattle.std.specs.Prelude.{◌≡◌, Bool, true, false, not, if◌then◌else◌, ℕ, eqb, ◌+◌, ◌-◌, List, [], ◌∷◌, ◌++◌, map, length, Option, Some, None, Result, Ok, Err, ⊤}
+use Rattle.std.specs.Prelude.{◌≡◌, Bool, true, false, not, if◌then◌else◌, ℕ, eqb, ◌+◌, ◌-◌, List, [], ◌∷◌, ◌++◌, map, length, Option, Some, None, Result, Ok, Err}
+use Rattle.sha2.specs.Sha256.{sha256}
 use Rattle.rules.specs.Base.{any, collect, sum_of}
 use Rattle.rules.specs.Grammar.{ascii}
 use Rattle.rules.specs.Names.{Bytes, sameBytes}
@@ -75,14 +76,21 @@ pub record TrueBy (es : List Entry) (h : Had) : Type 0 where
 abbrev pub YesIsTrue : List Entry → Had → Type 0
 YesIsTrue es h = isYes (wordOf es h) ≡ true → TrueBy es h
 
--- what is kept of a sheet, under its name: its file has this digest, and by these lines each of its constraints is true
-pub record KeptOf (name text : Bytes) (e : Entry) : Type 0 where
+-- what is kept of a sheet, under its name and with the lines that were given: they are judged to make each constraint of its file true, and do
+pub record KeptOf (name text lines : Bytes) (e : Entry) : Type 0 where
   pub named : e.name.items ≡ writtenName name
+  pub given : e.lines.items ≡ lines
+  pub verified : certified (sha256 text) text lines ≡ yes
   pub certified : Certified e.digest text e.lines.items
 
-abbrev pub IsKeptOf : Bytes → Bytes → Result Entry Verdict → Type 0
-IsKeptOf name text (Ok e) = KeptOf name text e
-IsKeptOf name text (Err v) = ⊤
+-- nothing is kept: what is judged of the lines, which isn't yes
+pub record NotKept (text lines : Bytes) (v : Verdict) : Type 0 where
+  pub told : said v ≡ certified (sha256 text) text lines
+  pub no : isYesSaid (said v) ≡ false
+
+abbrev pub IsKeptOf : Bytes → Bytes → Bytes → Result Entry Verdict → Type 0
+IsKeptOf name text lines (Ok e) = KeptOf name text lines e
+IsKeptOf name text lines (Err v) = NotKept text lines v
 
 -- ══ As text ══
 

@@ -53,7 +53,7 @@ pub fn keep(
     text: &[u8],
     lines: Vec<u8>,
 ) -> Result<Result<Entry, Verdict>, AllocError>
-    ensures { IfOk result (IsKeptOf name.now text.now) }
+    ensures { IfOk result (IsKeptOf name.now text.now lines.items) }
 {
     let digest = Sha256::digest(text);
     match certify(alloc, &digest, text, &lines)? {

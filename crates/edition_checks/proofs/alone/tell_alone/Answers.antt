@@ -8,34 +8,20 @@ use Rattle.edition.specs.Why.{pageTold}
 use Rattle.edition_checks.proofs.Edition.{edition_alone, all_put}
 use Rattle.edition_checks.proofs.alone.tell_alone.Goals as goal
 
-pub returns-clause-told : goal.returns-clause-told
-returns-clause-told g c =
+pub returns : goal.returns
+returns g c =
     let tables = c.in_ok-tables in
     let e = editionGiven tables.tables.pool.items tables.tables.table.items (files_of (c.file.result ∷ [])) in
     let same = edition_alone _ _ c.file.result c.args.given.now tables.ensures.pool tables.ensures.table c.file.ensures.name c.file.ensures.text in
     let read = c.in_ok-sheets.ensures in
     let names = c.in_ok-names.ensures in
-    let told = c.tell_each.ensures.told e.pages (rw c.deref.ensures.value read.holds) in
+    let holds = rw c.deref.ensures.value read.holds in
     let put = all_put (pageTold c.args.how.why c.args.how.shown) e _ _ _ _ _ c.in_ok-accepted.accepted c.in_ok-accepted.ensures
-    (names.0 ∙ read.pools) (names.1 ∙ read.tables) told in
-    rw same at put
-
-pub returns-clause-counted : goal.returns-clause-counted
-returns-clause-counted g c =
-    let tables = c.in_ok-tables in
-    let e = editionGiven tables.tables.pool.items tables.tables.table.items (files_of (c.file.result ∷ [])) in
-    let same = edition_alone _ _ c.file.result c.args.given.now tables.ensures.pool tables.ensures.table c.file.ensures.name c.file.ensures.text in
-    let read = c.in_ok-sheets.ensures in
-    let names = c.in_ok-names.ensures in
-    let counted = c.tell_each.ensures.counted e.pages (rw c.deref.ensures.value read.holds) in
-    let there = rw c.in_ok-accepted.ensures at counted in
-    rw (names.0, names.1, same) at there
-
-pub returns-clause-named : goal.returns-clause-named
-returns-clause-named g c =
-    let tables = c.in_ok-tables in
-    let e = editionGiven tables.tables.pool.items tables.tables.table.items (files_of (c.file.result ∷ [])) in
-    let same = edition_alone _ _ c.file.result c.args.given.now tables.ensures.pool tables.ensures.table c.file.ensures.name c.file.ensures.text in
-    let read = c.in_ok-sheets.ensures in
+    (names.0 ∙ read.pools) (names.1 ∙ read.tables) (c.tell_each.ensures.told e.pages holds) in
+    let counted = rw c.in_ok-accepted.ensures at (c.tell_each.ensures.counted e.pages holds) in
     let named : Named c.read.new.self.pool.items c.read.new.self.table.items e = record { pools = read.pools; tables = read.tables } in
-    rw same at named
+    record {
+      told = rw same at put;
+      counted = rw (names.0, names.1, same) at counted;
+      named = rw same at named;
+    }
