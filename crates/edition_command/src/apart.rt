@@ -1,10 +1,9 @@
 // Sheets each over a name table of its own.
 use crate::certificate::Certificate;
-use crate::files::read;
+use crate::files::Named;
 use crate::listing::list;
 use crate::notes::Notes;
 use crate::options::Options;
-use crate::words::Words;
 use anyhow::{Context, Result};
 use edition::model::Room;
 use edition_checks::alone::tell_alone;
@@ -59,8 +58,7 @@ fn keep(alloc: Global, given: &Given, kept: &mut Certificate) -> Result<()> {
 /// Reads each file and tells of it, one after another.
 pub(crate) fn check<R: Files + Input + Print + Eprint + AllocGlobal>(
     rt: &R,
-    names: &[&str],
-    words: &Words,
+    named: &Named,
     options: Options,
 ) -> Result<Totals> {
     let alloc = rt.alloc();
@@ -72,8 +70,8 @@ pub(crate) fn check<R: Files + Input + Print + Eprint + AllocGlobal>(
     };
     let mut kept = Certificate::new(alloc);
     let mut front = Front::new(alloc)?;
-    for name in names {
-        let given = read(rt, name, words, &mut front)?;
+    for name in named.names {
+        let given = named.read(rt, name, &mut front)?;
         check_one(rt, &given, options, &mut so_far, &mut out)?;
         if options.certificate.is_some() {
             keep(alloc, &given, &mut kept)?;
@@ -88,5 +86,6 @@ pub(crate) fn check<R: Files + Input + Print + Eprint + AllocGlobal>(
     if let Some(path) = options.certificate {
         kept.write(rt, path)?;
     }
+    kept.is_whole()?;
     Ok(totals)
 }

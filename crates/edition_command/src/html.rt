@@ -1,13 +1,14 @@
 // An edition's report as a page of HTML: one file, with nothing fetched and no script. What comes from a file goes through `Html::text`.
-use crate::certificate::write_file;
+use crate::files::Named;
 use crate::notes::Notes;
 use crate::options::Options;
+use crate::output::{PAGE, write_file};
 use crate::told::{Line, Report, SheetTold, lines_below, tell};
-use crate::words::Words;
 use anyhow::{Context, Result};
 use edition_checks::status::Totals;
 use edition_html::put_text;
-use edition_report::words::{put_amount, put_total};
+use edition_report::words::{put_amount, put_refused, put_total};
+use rules::Refusal;
 use std::alloc::{AllocError, Global};
 use std::io;
 use std::io::{BufWriter, Write};
@@ -128,10 +129,7 @@ fn place_of(line: &[u8], before: usize) -> usize {
 
 impl Html {
     fn head(&mut self, totals: Totals) -> Result<(), AllocError> {
-        self.raw("<!DOCTYPE html>\n<html lang=\"en\">\n<head>\n<meta charset=\"utf-8\">\n")?;
-        self.raw(
-            "<meta name=\"viewport\" content=\"width=device-width, initial-scale=1\">\n<title>An edition checked: ",
-        )?;
+        self.raw(PAGE)?;
         self.number(totals.accepted)?;
         self.raw(" of ")?;
         self.number(totals.sheets)?;
@@ -249,6 +247,13 @@ impl Html {
         self.raw("</tbody>\n</table>\n")
     }
 
+    // That no lines are told, since a refusal was met while they were looked for.
+    fn unknown(&mut self, why: Refusal) -> Result<(), AllocError> {
+        self.raw("<p>Looking for lines that conflict: ")?;
+        put_refused(&mut self.out, why)?;
+        self.raw("</p>\n")
+    }
+
     // The names that a sheet has first.
     fn new_names(&mut self, new: &[Vec<u8>]) -> Result<(), AllocError> {
         if new.is_empty() {
@@ -290,7 +295,10 @@ impl Html {
             self.refused(&lines)?;
         } else if !lines.is_empty() {
             self.remaining(&lines)?;
-            self.conflict(&sheet.why)?;
+            match &sheet.why {
+                Ok(lines) => self.conflict(lines)?,
+                Err(why) => self.unknown(*why)?,
+            }
         }
         self.new_names(&sheet.new)?;
         self.raw("</section>\n")
@@ -328,13 +336,12 @@ fn page(alloc: Global, report: &Report) -> Result<Vec<u8>, AllocError> {
 /// Writes what is told of the files as a page into a file, prints the last line of the report, and says what is noted.
 pub(crate) fn check<R: Files + Input + Print + Eprint + AllocGlobal>(
     rt: &R,
-    names: &[&str],
-    words: &Words,
+    named: &Named,
     options: Options,
     path: &str,
 ) -> Result<Totals> {
     let alloc = rt.alloc();
-    let report = tell(rt, names, words, options)?;
+    let report = tell(rt, named, options)?;
     write_file(rt, path, &page(alloc, &report)?).context("the page can't be written")?;
     let mut out = BufWriter::new(alloc, io::writer(rt))?;
     let mut last = Vec::new(alloc);

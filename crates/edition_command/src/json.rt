@@ -1,10 +1,11 @@
 // An edition's report as one value of JSON.
+use crate::files::Named;
 use crate::notes::Notes;
 use crate::options::Options;
 use crate::told::{Line, Report, SheetTold, lines_below, tell};
-use crate::words::Words;
 use anyhow::{Context, Result};
 use edition_checks::status::Totals;
+use rules::Refusal;
 use serde_json::{Map, Value, put};
 use std::alloc::{AllocError, Global};
 use std::io;
@@ -75,8 +76,31 @@ fn facts_json(alloc: Global, sheet: &SheetTold) -> Result<Map<String, Value>, Al
     Ok(members)
 }
 
+// Why a sheet isn't accepted: the lines that conflict, or the refusal that was met while they were looked for.
+fn why_json(
+    alloc: Global,
+    members: &mut Map<String, Value>,
+    why: &Result<Vec<Line>, Refusal>,
+) -> Result<(), AllocError> {
+    let (lines, refusal) = match why {
+        Ok(lines) => (lines_json(alloc, lines)?, None),
+        Err(why) => (Value::Array(Vec::new(alloc)), Some(why.number() as usize)),
+    };
+    put(members, alloc, "why", lines)?;
+    put(members, alloc, "why_refusal", number(refusal))?;
+    Ok(())
+}
+
+// Is something that is told of a sheet not UTF-8: its file's name, its page, a new name?
+fn is_lossy(named: &Named, sheet: &SheetTold) -> bool {
+    if named.is_replaced(&sheet.name) || from_utf8(&sheet.page).is_err() {
+        return true;
+    }
+    sheet.new.iter().any(|name| from_utf8(name).is_err())
+}
+
 // What is told of a sheet, with its new names and its page.
-fn sheet_json(alloc: Global, sheet: &SheetTold) -> Result<Value, AllocError> {
+fn sheet_json(alloc: Global, named: &Named, sheet: &SheetTold) -> Result<Value, AllocError> {
     let bindings = if sheet.accepted {
         rows(alloc, &sheet.page)?
     } else {
@@ -92,12 +116,12 @@ fn sheet_json(alloc: Global, sheet: &SheetTold) -> Result<Value, AllocError> {
     )?;
     put(&mut members, alloc, "bindings", bindings)?;
     put(&mut members, alloc, "page", text(alloc, &sheet.page)?)?;
-    put(&mut members, alloc, "why", lines_json(alloc, &sheet.why)?)?;
+    why_json(alloc, &mut members, &sheet.why)?;
     put(
         &mut members,
         alloc,
         "lossy",
-        Value::Bool(from_utf8(&sheet.page).is_err()),
+        Value::Bool(is_lossy(named, sheet)),
     )?;
     Ok(Value::Object(members))
 }
@@ -112,10 +136,10 @@ fn notes_json(alloc: Global, notes: &Notes) -> Result<Value, AllocError> {
 }
 
 // The whole value.
-fn report_json(alloc: Global, report: &Report) -> Result<Value, AllocError> {
+fn report_json(alloc: Global, named: &Named, report: &Report) -> Result<Value, AllocError> {
     let mut sheets = Vec::new(alloc);
     for sheet in &report.sheets {
-        sheets.push(sheet_json(alloc, sheet)?)?;
+        sheets.push(sheet_json(alloc, named, sheet)?)?;
     }
     let totals = report.totals;
     let mut members = Map::new(alloc);
@@ -141,13 +165,12 @@ fn report_json(alloc: Global, report: &Report) -> Result<Value, AllocError> {
 /// Writes what is told of the files as one value, and says what is noted.
 pub(crate) fn check<R: Files + Input + Print + Eprint + AllocGlobal>(
     rt: &R,
-    names: &[&str],
-    words: &Words,
+    named: &Named,
     options: Options,
 ) -> Result<Totals> {
     let alloc = rt.alloc();
-    let report = tell(rt, names, words, options)?;
-    let value = report_json(alloc, &report)?;
+    let report = tell(rt, named, options)?;
+    let value = report_json(alloc, named, &report)?;
     let mut out = BufWriter::new(alloc, io::writer(rt))?;
     writeln!(out, "{}", value.to_string(alloc)?).context("the report can't be written")?;
     out.flush().context("the report can't be written")?;

@@ -10,6 +10,7 @@ mod json;
 mod listing;
 mod notes;
 mod options;
+mod output;
 mod together;
 mod told;
 mod verify;
@@ -17,27 +18,28 @@ mod words;
 
 ghost use Rattle.std.specs.Prelude.{◌≡◌, OnErr};
 
-use anyhow::{Error, Result, anyhow};
+use anyhow::{Error, Result, anyhow, bail};
 use clap::error::ErrorKind;
 pub use edition_checks::status::Status;
 use edition_checks::status::{Totals, status_of};
+use files::Named;
+use notes::push_shown;
 use options::{Form, Options, command};
 use std::rt::Files;
 pub use words::Words;
 
-// Checks the files with these names, in the form that was asked for.
+// Checks the sheets of a command line, in the form that was asked for.
 fn check<R: Files + Input + Print + Eprint + AllocGlobal>(
     rt: &R,
-    names: &[&str],
-    words: &Words,
+    named: &Named,
     options: Options,
 ) -> Result<Totals> {
     match (options.form, options.separate) {
-        (Form::Text, false) => together::check(rt, names, words, options),
-        (Form::Text, true) => apart::check(rt, names, words, options),
-        (Form::Json, _) => json::check(rt, names, words, options),
-        (Form::Html(path), _) => html::check(rt, names, words, options, path),
-        (Form::Verified(path), _) => verify::check(rt, path, names, words),
+        (Form::Text, false) => together::check(rt, named, options),
+        (Form::Text, true) => apart::check(rt, named, options),
+        (Form::Json, _) => json::check(rt, named, options),
+        (Form::Html(path), _) => html::check(rt, named, options, path),
+        (Form::Verified(path), _) => verify::check(rt, path, named),
     }
 }
 
@@ -54,6 +56,83 @@ fn answer<R: Print + Eprint>(rt: &R, error: &clap::Error) -> Result<Status> {
     Ok(Status::Accepted)
 }
 
+// A mistake on the command line that is found behind `clap`: standard error says what it is.
+fn mistake<R: Eprint>(rt: &R, what: &str) -> Status
+    ensures { result ≡ Status.Usage }
+{
+    let _ = eprintln!(rt; "check_edition: {what}");
+    Status::Usage
+}
+
+// A line that begins with a file, without control characters.
+fn line_on<R: AllocGlobal>(rt: &R, path: &str, what: &str) -> Result<String> {
+    let mut line = String::new(rt.alloc());
+    push_shown(&mut line, path.as_bytes())?;
+    line.push_str(what)?;
+    Ok(line)
+}
+
+// What is wrong with the file that an option names, if something is: it can't be opened by its name, or it is to be written and is a sheet.
+fn wrong_with<R: AllocGlobal>(
+    rt: &R,
+    words: &Words,
+    names: &[&str],
+    options: Options,
+) -> Result<Option<String>> {
+    let Some(path) = options.path() else {
+        return Ok(None);
+    };
+    if !words.is_path(path) {
+        return Ok(Some(line_on(
+            rt,
+            path,
+            ": no file can be opened by a name that isn't UTF-8",
+        )?));
+    }
+    if options.output().is_some() && path != "-" && names.iter().any(|name| *name == path) {
+        return Ok(Some(line_on(rt, path, ": named as a sheet, and as the file to write")?));
+    }
+    Ok(None)
+}
+
+// Sees that the file that is to be written, if one is, may be made anew.
+fn check_output<R: Files + AllocGlobal>(rt: &R, options: Options) -> Result<()> {
+    let Some(output) = options.output() else {
+        return Ok(());
+    };
+    if output.may_be_written(rt) {
+        return Ok(());
+    }
+    let path = line_on(rt, output.path(), ": exists, and is no ")?;
+    bail!("{path}{}: not overwritten", output.kind())
+}
+
+// Checks the sheets of a command line, once it is seen that what is written overwrites nothing else.
+fn check_named<R: Files + Input + Print + Eprint + AllocGlobal>(
+    rt: &R,
+    named: &Named,
+    options: Options,
+) -> Result<Status> {
+    check_output(rt, options)?;
+    let totals = check(rt, named, options)?;
+    Ok(status_of(totals, options.strict))
+}
+
+// Checks what comes from standard input, where a command line names no file.
+fn check_input<R: Files + Input + Print + Eprint + AllocGlobal>(
+    rt: &R,
+    words: &Words,
+    options: Options,
+) -> Result<Status> {
+    if let Form::Verified(_) = options.form {
+        return Ok(mistake(rt, "no sheet: name those to be judged by the certificate"));
+    }
+    match Named::input(rt, words)? {
+        Some(named) => check_named(rt, &named, options),
+        None => Ok(mistake(rt, "no sheet: name files, or - for standard input")),
+    }
+}
+
 // Looks at the words of a command line, and checks the files that they name.
 fn check_words<R: Files + Input + Print + Eprint + AllocGlobal>(
     rt: &R,
@@ -64,9 +143,14 @@ fn check_words<R: Files + Input + Print + Eprint + AllocGlobal>(
         Err(error) => return answer(rt, &error),
     };
     let options = Options::of(&matches);
-    let names: &[&str] = matches.get_strs("FILE").unwrap_or(&["-"]);
-    let totals = check(rt, names, words, options)?;
-    Ok(status_of(totals, options.strict))
+    let names = matches.get_strs("FILE");
+    if let Some(what) = wrong_with(rt, words, names.unwrap_or(&[]), options)? {
+        return Ok(mistake(rt, &what));
+    }
+    match names {
+        Some(names) => check_named(rt, &Named::files(names, words), options),
+        None => check_input(rt, words, options),
+    }
 }
 
 // There is no whole report: standard error says why.

@@ -3,6 +3,7 @@ use anyhow::Result;
 use edition::model::File;
 use edition_look_alikes::{alike_pairs, has_format, with_format};
 use edition_report::lines::constraint_line;
+use names::inner::count;
 use names::tables::NameTable;
 use std::alloc::{AllocError, Global};
 use std::fmt;
@@ -42,11 +43,23 @@ impl Notes {
             self.push_pair(names.name(pair.first), names.name(pair.second), files)?;
         }
         for number in with_format(alloc, names)? {
-            self.text
-                .push_str("note: a name has characters that are not seen\n")?;
-            self.push_name(names.name(number), files)?;
-            self.count = self.count.saturating_add(1);
+            self.push_unseen(names.name(number), files)?;
         }
+        for number in 0..count(names.table) {
+            let name = names.name(number);
+            if has_control(name) && !has_format(name) {
+                self.push_unseen(name, files)?;
+            }
+        }
+        Ok(())
+    }
+
+    // A name with characters that are not seen.
+    fn push_unseen(&mut self, name: &[u8], files: &[File]) -> Result<()> {
+        self.text
+            .push_str("note: a name has characters that are not seen\n")?;
+        self.push_name(name, files)?;
+        self.count = self.count.saturating_add(1);
         Ok(())
     }
 
@@ -111,7 +124,7 @@ fn is_empty(file: &File) -> bool {
 }
 
 // Adds a file's name, without control characters.
-fn push_shown(out: &mut String, name: &[u8]) -> Result<(), AllocError> {
+pub(crate) fn push_shown(out: &mut String, name: &[u8]) -> Result<(), AllocError> {
     let alloc = *out.allocator();
     for c in String::from_utf8_lossy(alloc, name)?.chars() {
         out.push(if c.is_control() { '?' } else { c })?;
@@ -140,6 +153,15 @@ fn as_seen(name: &[u8]) -> Option<&str> {
     Some(text)
 }
 
+// Has a name, if it is UTF-8, a control character beyond ASCII (U+0080 to U+009F)? Pages show these as they are, so they reach a terminal; those of ASCII are
+// escaped there.
+fn has_control(name: &[u8]) -> bool {
+    match from_utf8(name) {
+        Ok(text) => text.chars().any(|c| c.is_control() && !c.is_ascii()),
+        Err(_) => false,
+    }
+}
+
 // The first line of a file that has a name.
 fn line_with(file: &File, name: &[u8]) -> Option<usize> {
     let Ok(text) = file.text else {
@@ -154,30 +176,56 @@ fn line_with(file: &File, name: &[u8]) -> Option<usize> {
 }
 
 fn is_comment(line: &[u8]) -> bool {
-    line.iter().find(|b| !matches!(**b, b' ' | b'\t' | b'\r')) == Some(&b'-')
+    line.iter().find(|b| !is_blank(**b)) == Some(&b'-')
 }
 
-// Does a line have a name, spelled in any way?
+// Does a line have a name, spelled in any way: behind a mark or a quote, or as a field's?
 fn has_name(line: &[u8], name: &[u8]) -> bool {
-    line.split(|b| !is_plain(*b) && *b != b'\\')
-        .any(|word| spells(word, name))
+    for k in 0..line.len() {
+        let (front, rest) = line.split_at(k);
+        if let Some(rest) = behind_name(rest, name) {
+            if is_marked(front) || is_field(front, rest) {
+                return true;
+            }
+        }
+    }
+    false
 }
 
-// Does a word spell a name: plain bytes, and any byte as "\" and two hex digits?
-fn spells(word: &[u8], name: &[u8]) -> bool {
-    let mut rest = word;
+// Does a mark or a quote stand right in front?
+fn is_marked(front: &[u8]) -> bool {
+    matches!(front.last(), Some(b'?' | b'!' | b'#' | b'@' | b'"'))
+}
+
+fn is_blank(b: u8) -> bool {
+    matches!(b, b' ' | b'\t' | b'\r')
+}
+
+// Is it a field's name that stands between: behind "{" or ",", and before ":"?
+fn is_field(front: &[u8], rest: &[u8]) -> bool {
+    let before = front.iter().rev().find(|b| !is_blank(**b));
+    let after = rest.iter().find(|b| !is_blank(**b));
+    matches!(before, Some(b'{' | b',')) && after == Some(&b':')
+}
+
+// What stands behind a name, if a line begins with it and it ends there: plain bytes, and any byte as "\" and two hex digits.
+fn behind_name<'a>(line: &'a [u8], name: &[u8]) -> Option<&'a [u8]> {
+    let mut rest = line;
     for b in name {
         let Some(behind) = behind(rest, *b) else {
-            return false;
+            return None;
         };
         rest = behind;
     }
-    rest.is_empty()
+    match rest.first() {
+        Some(b) if is_plain(*b) || *b == b'\\' => None,
+        _ => Some(rest),
+    }
 }
 
-// What stands behind a spelling of a byte, if a word begins with one.
-fn behind(word: &[u8], b: u8) -> Option<&[u8]> {
-    match word {
+// What stands behind a spelling of a byte, if a line begins with one.
+fn behind(line: &[u8], b: u8) -> Option<&[u8]> {
+    match line {
         [b'\\', high, low, rest @ ..] => {
             if byte_of(*high, *low) == Some(b) {
                 Some(rest)
@@ -185,7 +233,13 @@ fn behind(word: &[u8], b: u8) -> Option<&[u8]> {
                 None
             }
         }
-        [p, rest @ ..] => { if *p == b { Some(rest) } else { None } }
+        [p, rest @ ..] => {
+            if *p == b && is_plain(b) {
+                Some(rest)
+            } else {
+                None
+            }
+        }
         [] => None,
     }
 }

@@ -1,4 +1,5 @@
 // The command line.
+use crate::output::Output;
 use clap::{Arg, ArgAction, ArgMatches, Command};
 use edition::model::How;
 use rules::Shown;
@@ -44,6 +45,26 @@ impl<'a> Options<'a> {
         }
     }
 
+    /// The file that is to be written, if one is.
+    pub(crate) fn output(self) -> Option<Output<'a>> {
+        match (self.form, self.certificate) {
+            (Form::Html(path), _) => Some(Output::Page(path)),
+            (_, Some(path)) => Some(Output::Certificate(path)),
+            (_, None) => None,
+        }
+    }
+
+    /// The file that an option names, if one does; no two that do stand together.
+    pub(crate) fn path(self) -> Option<&'a str> {
+        if let Form::Verified(path) = self.form {
+            return Some(path);
+        }
+        match self.output() {
+            Some(output) => Some(output.path()),
+            None => None,
+        }
+    }
+
     /// Is it told which lines conflict? A page to look at always tells it.
     pub(crate) fn is_why_told(self) -> bool {
         self.how.why || matches!(self.form, Form::Html(_))
@@ -70,10 +91,13 @@ const AFTER: &str =
 All sheets share one table of 256 names; --separate gives each a table of its own, 256 names a sheet in place of 256 an edition.
 
 A page begins with the file's name, and the place where one is known, NAME:LINE:COLUMN:. \
-Notes on standard error (names that look alike, sheets without a constraint) are no part of a verdict.
+Notes on standard error (names that look alike, sheets without a constraint) are no part of a verdict; \
+with --separate names of different sheets are not compared.
+
+A FILE of --certificate or --html is made anew only where it isn't there, is empty, or is such a file already; a sheet is never overwritten.
 
 Exit status: 0 every sheet is accepted; 1 one isn't, a file that can't be read among them; 2 a mistake on the command line; \
-3 no whole report (no memory, or the output can't be written).";
+3 no whole report (no memory, or the output can't be written), or a sheet that is accepted isn't in the certificate.";
 
 fn flag<'a>(alloc: Global, name: &'a str, help: &'a str) -> Arg<'a> {
     Arg::new(alloc, name)
@@ -99,11 +123,15 @@ fn with_pages<'a>(alloc: Global, command: Command<'a>) -> Result<Command<'a>, Al
             "Leave out the pages of sheets that are accepted",
         )
         .short('q'))?
-        .arg(flag(
-            alloc,
-            "names",
-            "List each sheet's new names behind the report",
-        ))?
+        .arg(
+            flag(
+                alloc,
+                "names",
+                "List each sheet's new names behind the report",
+            )
+            .conflicts_with("json")?
+            .conflicts_with("html")?,
+        )?
         .arg(flag(
             alloc,
             "why",
@@ -158,7 +186,9 @@ fn with_certificates<'a>(alloc: Global, command: Command<'a>) -> Result<Command<
 /// The words that the program takes.
 pub(crate) fn command<'a>(alloc: Global) -> Result<Command<'a>, AllocError> {
     let files = Arg::new(alloc, "FILE")
-        .help("Sheets, one file each; none, or -, is standard input")
+        .help(
+            "Sheets, one file each; none, or -, is standard input (beside --verify name at least one)",
+        )
         .action(ArgAction::Append)
         .num_args(0..);
     let command = Command::new(alloc, "check_edition")

@@ -1,9 +1,8 @@
 // What is told of each sheet, for whoever shows it in another form than lines.
-use crate::files::read;
+use crate::files::Named;
 use crate::listing::new_names;
 use crate::notes::Notes;
 use crate::options::Options;
-use crate::words::Words;
 use anyhow::Result;
 use edition::model::{Room, Sheet};
 use edition::telling::tell_sheet;
@@ -96,7 +95,8 @@ pub(crate) struct Line {
     pub text: Vec<u8>,
 }
 
-/// What is told of a sheet: its file's name, what became of it, its new names, its page as it would be printed, and the lines that conflict.
+/// What is told of a sheet: its file's name, what became of it, its new names, its page as it would be printed, and the lines that conflict, or the refusal
+/// that was met while they were looked for.
 #[derive(Drop)]
 pub(crate) struct SheetTold {
     pub name: Vec<u8>,
@@ -105,7 +105,7 @@ pub(crate) struct SheetTold {
     pub constraints: usize,
     pub new: Vec<Vec<u8>>,
     pub page: Vec<u8>,
-    pub why: Vec<Line>,
+    pub why: Result<Vec<Line>, Refusal>,
 }
 
 /// What is told of all sheets that are shown, what they come to, and what is noted.
@@ -140,7 +140,7 @@ impl Report {
             let why = if options.is_why_told() {
                 conflict_lines(alloc, names, sheet, outcome, &mut self.room)?
             } else {
-                Vec::new(alloc)
+                Ok(Vec::new(alloc))
             };
             if options.how.shown == Shown::All || !outcome.is_accepted() {
                 self.sheets.push(SheetTold {
@@ -164,25 +164,28 @@ impl Report {
     }
 }
 
-// The lines of a sheet that conflict; none where a refusal was met on the way.
+// The lines of a sheet that conflict, or a refusal that was met on the way.
 fn conflict_lines(
     alloc: Global,
     names: NameTable,
     sheet: &Sheet,
     outcome: Outcome,
     room: &mut Room,
-) -> Result<Vec<Line>, AllocError> {
+) -> Result<Result<Vec<Line>, Refusal>, AllocError> {
+    let many = match conflict_in(names, sheet, outcome, room) {
+        Ok(Some(many)) => many,
+        Ok(None) => 0,
+        Err(why) => return Ok(Err(why)),
+    };
     let mut lines = Vec::new(alloc);
-    if let Ok(Some(many)) = conflict_in(names, sheet, outcome, room) {
-        for place in room.res.iter().take(many) {
-            let number = constraint_line(sheet.text, *place as usize);
-            lines.push(Line {
-                number,
-                text: Vec::from_slice(alloc, line_in(sheet.text, number))?,
-            })?;
-        }
+    for place in room.res.iter().take(many) {
+        let number = constraint_line(sheet.text, *place as usize);
+        lines.push(Line {
+            number,
+            text: Vec::from_slice(alloc, line_in(sheet.text, number))?,
+        })?;
     }
-    Ok(lines)
+    Ok(Ok(lines))
 }
 
 // The new names of a sheet, whose numbers begin with `first`.
@@ -213,16 +216,15 @@ pub(crate) fn lines_below(alloc: Global, page: &[u8]) -> Result<Vec<&[u8]>, Allo
 /// Reads the files and tells of them: of each by itself, or of all together.
 pub(crate) fn tell<R: Files + Input + AllocGlobal>(
     rt: &R,
-    names: &[&str],
-    words: &Words,
+    named: &Named,
     options: Options,
 ) -> Result<Report> {
     let alloc = rt.alloc();
     let mut report = Report::new(alloc);
     let mut front = Front::new(alloc)?;
     let mut given = Vec::new(alloc);
-    for name in names {
-        given.push(read(rt, name, words, &mut front)?)?;
+    for name in named.names {
+        given.push(named.read(rt, name, &mut front)?)?;
         if options.separate {
             report.add(alloc, &given, options)?;
             given.clear();

@@ -1,7 +1,6 @@
 // Sheets judged by a certificate, with nothing solved: a line for each.
 
-use crate::files::read_all;
-use crate::words::Words;
+use crate::files::Named;
 use anyhow::{Context, Result};
 use edition_certificate_file::{Entry, Fault, read_certificate};
 use edition_checks::by_certificate::verify_on;
@@ -97,8 +96,7 @@ fn kept_in<R: Files + AllocGlobal>(rt: &R, path: &str) -> Result<Result<Vec<Entr
 pub(crate) fn check<R: Files + Input + Print + AllocGlobal>(
     rt: &R,
     path: &str,
-    names: &[&str],
-    words: &Words,
+    named: &Named,
 ) -> Result<Totals> {
     let alloc = rt.alloc();
     let mut out = Written::new(alloc, BufWriter::new(alloc, io::writer(rt))?);
@@ -109,6 +107,6 @@ pub(crate) fn check<R: Files + Input + Print + AllocGlobal>(
             Vec::new(alloc)
         }
     };
-    let given = read_all(rt, names, words)?;
+    let given = named.read_all(rt)?;
     verify_on(alloc, &entries, &given, &mut out)
 }

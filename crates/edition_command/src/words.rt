@@ -35,8 +35,19 @@ impl Words {
         Ok(())
     }
 
-    /// Can a file be opened by this word: was it UTF-8 as it was given?
+    /// Can a file be opened by this word, or by what stands behind an option's "=": was it UTF-8 as it was given?
     pub(crate) fn is_path(&self, word: &str) -> bool {
-        !self.replaced.iter().any(|r| r.as_str() == word)
+        !self.replaced.iter().any(|r| is_or_sets(r.as_str(), word))
+    }
+}
+
+// Is a word this path, or an option that sets it?
+fn is_or_sets(word: &str, path: &str) -> bool {
+    if word == path {
+        return true;
+    }
+    match word.split_once('=') {
+        Some((_, value)) => value == path,
+        None => false,
     }
 }
