@@ -15,10 +15,10 @@ returns g c =
     let same = edition_alone _ _ c.file.result c.args.given.now tables.ensures.pool tables.ensures.table c.file.ensures.name c.file.ensures.text in
     let read = c.in_ok-sheets.ensures in
     let names = c.in_ok-names.ensures in
-    let holds = rw c.deref.ensures.value read.holds in
     let put = all_put (pageTold c.args.how.why c.args.how.shown) e _ _ _ _ _ c.in_ok-accepted.accepted c.in_ok-accepted.ensures
-    (names.0 ∙ read.pools) (names.1 ∙ read.tables) (c.tell_each.ensures.told e.pages holds) in
-    let counted = rw c.in_ok-accepted.ensures at (c.tell_each.ensures.counted e.pages holds) in
+    (names.0 ∙ read.pools) (names.1 ∙ read.tables) (c.tell_each.ensures.told e.pages (rw c.deref.ensures.value read.holds)) in
+    let counted = c.tell_each.ensures.counted e.pages (rw c.deref.ensures.value read.holds) in
+    let counted = rw c.in_ok-accepted.ensures at counted in
     let named : Named c.read.new.self.pool.items c.read.new.self.table.items e = record { pools = read.pools; tables = read.tables } in
     record {
       told = rw same at put;
