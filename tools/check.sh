@@ -4,7 +4,7 @@
 # over the archive of SHUPKELEN_LIB, else a new one.
 cd "$(dirname "$0")/.." || exit 1
 status=0
-for script in calls house header records audit; do
+for script in calls house header records cited audit; do
     python3 tools/$script.py $([ "$1" = --write ] && echo --write) || status=1
 done
 [ $status = 0 ] || exit 1

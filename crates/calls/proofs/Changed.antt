@@ -8,7 +8,7 @@ use lib.ListN.{length, get_or, take}
 use Rattle.std.proofs.Common.{add-one, length-append}
 use Rattle.std.proofs.lemmas.List.{get_or-take}
 use Rattle.std.proofs.lemmas.List.Edits.{sets}
-use Rattle.records.specs.Stores.{sets-append}
+use Rattle.records.proofs.Stores.{sets-append}
 use Rattle.calls_defined.specs.Saying.{pick}
 use Rattle.calls_defined.specs.Dispatch.{change, changesFrom}
 

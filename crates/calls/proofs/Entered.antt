@@ -7,7 +7,7 @@ use lib.ListN.{length, take, set}
 use Rattle.std.proofs.Common.{add-one, length-append}
 use Rattle.std.proofs.lemmas.List.{length-take-le}
 use Rattle.std.proofs.lemmas.List.Edits.{sets}
-use Rattle.records.specs.Stores.{sets-append}
+use Rattle.records.proofs.Stores.{sets-append}
 use Rattle.rules.specs.Base.{Got}
 use Rattle.rules.specs.declared.Was.{Was}
 use Rattle.rules.specs.Names.{Entered, enter}

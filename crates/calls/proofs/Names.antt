@@ -6,7 +6,7 @@ use lib.ListN.{length}
 use Rattle.std.proofs.lemmas.List.Edits.{sets}
 use Rattle.rules.specs.Base.{Got, got, refused}
 use Rattle.rules.specs.Names.{Bytes, nameAsked, part_of, start_in, table_of, partFrom, partAsked}
-use Rattle.laws.specs.Lists.{got≢refused, clash, same-number}
+use Rattle.laws.proofs.Lists.{got≢refused, clash, same-number}
 use Rattle.names.specs.Told.{refusalOf}
 use Rattle.calls_defined.specs.Dispatch.{shown, nameAs, naming}
 use Rattle.calls_defined.specs.Saying.{saidAs, refusedAs}

@@ -8,7 +8,7 @@ use Rattle.std.proofs.Math.ListN.{get_or-map}
 use Rattle.std.proofs.lemmas.List.Edits.{sets}
 use Rattle.rules.specs.Base.{Got, got, refused, collect}
 use Rattle.rules.specs.Values.{FactorValue, productValue}
-use Rattle.records.specs.Stores.{sets-append}
+use Rattle.records.proofs.Stores.{sets-append}
 use Rattle.products.specs.declared.Factor.{Factor}
 use Rattle.products.specs.declared.Product.{Product}
 use Rattle.products.specs.Told.{Tree, valueIn, given, answer}

@@ -1,22 +1,7 @@
 -- Is a list one word again and again?
-use Rattle.std.specs.Prelude.{◌≡◌, ℕ, ◌+◌, ◌<◌, ◌≤◌, Bool, true, false, List, [], ◌∷◌, length, drop, ◌==◌, slice_index}
-use Rattle.std.proofs.Common.{add-one, drop_of_length-le}
-use Rattle.std.proofs.Math.Seq.{drop-cons}
+use Rattle.std.specs.Prelude.{ℕ, Bool, true, false, List, [], ◌∷◌, ◌==◌}
 use Rattle.calls_defined.specs.Saying.{pick}
 
 unfoldable pub same : List ℕ → ℕ → Bool
 same [] w = true
 same (x ∷ xs) w = pick (x == w) (same xs w) false
-
-module _ (s : List ℕ) (i w : ℕ) where
-  pub same_end : length s ≤ i → same (drop i s) w ≡ true
-  unfolding same
-  same_end h = rw (drop_of_length-le s {i = i} h)
-
-  pub same-on : i < length s → (slice_index s i == w) ≡ true → same (drop i s) w ≡ same (drop (i + 1) s) w
-  unfolding same
-  same-on h e = rw (add-one i, drop-cons s i 0 h, e)
-
-  pub same_not : i < length s → (slice_index s i == w) ≡ false → same (drop i s) w ≡ false
-  unfolding same
-  same_not h e = rw (drop-cons s i 0 h, e)

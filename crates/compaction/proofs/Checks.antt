@@ -13,11 +13,12 @@ use Rattle.rules.specs.Calls.{setGiven, tableKept}
 use Rattle.rules.specs.Names.{Table, table_of, tableGood, lentTable}
 use Rattle.rules.specs.Reading.{readCon}
 use Rattle.rules.specs.Trees.{Con}
-use Rattle.laws.specs.Lists.{clash, and_left, and_right}
+use Rattle.laws.specs.Lists.{and_left, and_right}
+use Rattle.laws.proofs.Lists.{clash}
 use Rattle.laws.specs.NameTable.{Good}
 use Rattle.records.specs.Found.{Words32}
 use Rattle.records.specs.Good.{Chained, goodCon, GoodCon}
-use Rattle.records.specs.Given.{list-told, con-reader}
+use Rattle.records.proofs.Given.{list-told, con-reader}
 use Rattle.compaction.specs.Told.{metSet, metSets}
 use Rattle.rules.specs.Compaction.{eachGiven, compactChecks}
 

@@ -3,7 +3,7 @@ use Rattle.std.specs.Prelude.{◌≡◌}
 use Rattle.std.proofs.Common.{sym, ◌∙◌}
 use Rattle.std.proofs.Math.Path.{ap}
 use Rattle.rules.specs.Numbers.{refusalIn, number}
-use Rattle.laws.specs.Numbers.{told-injective, answer-in}
+use Rattle.laws.proofs.Numbers.{told-injective, answer-in}
 use Rattle.rules.specs.Compaction.{Compacted}
 use Rattle.compaction.specs.Theorems.{CompactDetermined, CompactNumbered}
 use Rattle.compaction.specs.Told.{compactedAs}

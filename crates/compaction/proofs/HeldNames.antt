@@ -48,8 +48,10 @@ use Rattle.rules.specs.Trees.{Basic, boolean, string, datetime, orderAtom}
 use Rattle.rules.specs.WellFormed.{rising, atomOf, goodOpen, goodFactor, goodProduct, goodTy, goodTys, goodFields, goodCon}
 use Rattle.rules.specs.Writing.{Rec, rec, head, kindIn, twos, word_of, words, writeFactor, writeProduct, writeTy, writeTys, writeFields, writeCon}
 use Rattle.laws.specs.Heads.{kind-head}
-use Rattle.laws.specs.Lists.{Every, every_append, and_left, and_right, clash}
-use Rattle.laws.specs.ReadLists.{Words, taken, all_read, con-read}
+use Rattle.laws.specs.Lists.{Every, and_left, and_right}
+use Rattle.laws.proofs.Lists.{every_append, clash}
+use Rattle.laws.specs.ReadLists.{Words}
+use Rattle.laws.proofs.ReadLists.{taken, all_read, con-read}
 
 module _ (t : Table) where
   -- if a record names a number, it is held

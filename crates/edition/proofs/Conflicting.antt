@@ -25,13 +25,14 @@ use Rattle.rules.specs.Reports.{
 }
 use Rattle.rules.specs.Trees.{Con}
 use Rattle.rules.specs.Writing.{words, writeCon}
-use Rattle.laws.specs.Lists.{Every, every-as}
+use Rattle.laws.specs.Lists.{Every}
+use Rattle.laws.proofs.Lists.{every-as}
 use Rattle.laws.specs.NameTable.{Good}
-use Rattle.text_columns.specs.Left.{read-back}
+use Rattle.text_columns.proofs.Left.{read-back}
 use Rattle.solve_conflict.specs.Theorems.{PartOf, ConflictTold}
 use Rattle.solve_conflict.proofs.Worth.{conflicts-told}
 use Rattle.edition_report.proofs.Placed.{lines-theirs}
-use Rattle.edition.specs.Sheets.{all-lent}
+use Rattle.edition.proofs.Sheets.{all-lent}
 use Rattle.edition.specs.Why.{ifRemains, conflictOn, whyText, whyShown}
 use Rattle.edition.specs.Theorems.{LinesTold, LinesToldOn, LinesConflict, ToldLinesConflict}
 use Rattle.edition.proofs.Origins.{Origin, Rooted, RootedPage, on-pages}

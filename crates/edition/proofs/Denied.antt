@@ -14,11 +14,11 @@ use Rattle.rules.specs.Reports.{denied, judgedBy, finding, findingOf, Content, h
 use Rattle.rules.specs.Solving.{Answer, accepted, remaining, stopped, solve}
 use Rattle.rules.specs.Trees.{Names, Con, Binding, opensCon}
 use Rattle.rules.specs.Writing.{words, writeCon}
-use Rattle.laws.specs.Checks.{need-passed}
-use Rattle.laws.specs.Given.{set-read}
-use Rattle.laws.specs.Lists.{bound-step, true≢false, some≢none, got≢refused}
+use Rattle.laws.proofs.Checks.{need-passed}
+use Rattle.laws.proofs.Given.{set-read}
+use Rattle.laws.proofs.Lists.{bound-step, true≢false, some≢none, got≢refused}
 use Rattle.laws.specs.NameTable.{Good}
-use Rattle.text_columns.specs.Left.{read-back}
+use Rattle.text_columns.proofs.Left.{read-back}
 use Rattle.theorems_soundness.specs.Claims.{Given, YesOrLimits, Fails}
 use Rattle.theorems_soundness.proofs.Soundness.{own-answer, no-fails}
 use Rattle.theorems_soundness.proofs.Words.{numbers-ordered}

@@ -4,7 +4,7 @@ use Rattle.std.proofs.Common.{sym, ap, ◌∙◌, add-one, append-nil, drop-cons
 use Rattle.std.proofs.lemmas.List.{take-append-drop}
 use Rattle.rules.specs.Base.{collect}
 use Rattle.rules.specs.Names.{Bytes}
-use Rattle.laws.specs.Contents.{collect-append}
+use Rattle.laws.proofs.Contents.{collect-append}
 
 module _ {A : Type 0} (f : A → Bytes) (xs : List A) (i : ℕ) (d : A) (l : i < length xs) where
   pub each-more : collect f (take (i + 1) xs) ≡ collect f (take i xs) ++ f (get_or xs i d)

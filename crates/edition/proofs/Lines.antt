@@ -36,8 +36,9 @@ use Rattle.rules.specs.TextWriting.{namesIn}
 use Rattle.rules.specs.Trees.{var, Con, Binding, ◌≔◌}
 use Rattle.rules.specs.declared.Unseen.{Unseen}
 use Rattle.rules.specs.declared.Unseen.TheVariants.{NotOpened, NotRead, TooLong}
-use Rattle.laws.specs.Contents.{collect-append}
-use Rattle.laws.specs.Lists.{Every, every_append}
+use Rattle.laws.proofs.Contents.{collect-append}
+use Rattle.laws.specs.Lists.{Every}
+use Rattle.laws.proofs.Lists.{every_append}
 use Rattle.edition.specs.Theorems.{belowBlank, Flat, lineBelow, InLines, PagesInLines, WhysInLines}
 use Rattle.edition.specs.Why.{conflictHead, unknownText, lineTold, whyLine, whyShown, conflictOn, whyText}
 use Rattle.edition.proofs.Seen.{Seen, none, ◌&◌, lit, name-seen, digits-seen, open-seen, ty-seen, con-seen}

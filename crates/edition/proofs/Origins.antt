@@ -6,9 +6,11 @@ use Rattle.rules.specs.Reports.{Content, holding, refusing, lacking, Page, page_
 use Rattle.rules.specs.TextReading.{Sheet, sheet, refusedIn, Sofar, sheetRead}
 use Rattle.rules.specs.Trees.{Con}
 use Rattle.rules.specs.declared.Unseen.{Unseen}
-use Rattle.laws.specs.Lists.{Every, every-as}
-use Rattle.laws.specs.NameTable.{Good, given-good}
-use Rattle.text_columns.specs.Left.{read-keeps-good}
+use Rattle.laws.specs.Lists.{Every}
+use Rattle.laws.proofs.Lists.{every-as}
+use Rattle.laws.specs.NameTable.{Good}
+use Rattle.laws.proofs.NameTable.{given-good}
+use Rattle.text_columns.proofs.Left.{read-keeps-good}
 
 pub record Origin (text : Bytes) (cs : List (Con ℕ)) : Type 0 where
   pub pool : List ℕ

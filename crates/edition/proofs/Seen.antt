@@ -7,8 +7,8 @@ use Rattle.rules.specs.Base.{any, collect, is_yes}
 use Rattle.rules.specs.Exponents.{Exp, frac, one, Exp-dec}
 use Rattle.rules.specs.Grammar.{ascii, is_plain, isDigit}
 use Rattle.rules.specs.Names.{Bytes}
-use Rattle.laws.specs.Contents.{any_append}
-use Rattle.laws.specs.Lists.{true≢false}
+use Rattle.laws.proofs.Contents.{any_append}
+use Rattle.laws.proofs.Lists.{true≢false}
 use Rattle.edition.specs.Theorems.{belowBlank, Flat}
 use Rattle.rules.specs.Trees.{
   Open,

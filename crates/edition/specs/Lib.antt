@@ -1,5 +1,4 @@
 pub mod Files
-pub mod Judged
 pub mod Pages
 pub mod Reading
 pub mod Report

@@ -37,7 +37,8 @@ use Rattle.hex.proofs.HexLemmas.{decode_sized-encode_lower}
 use Rattle.rules.specs.Base.{any, collect}
 use Rattle.rules.specs.Grammar.{ascii}
 use Rattle.rules.specs.Names.{Bytes, sameBytes, distinct}
-use Rattle.laws.specs.Lists.{Every, true≢false}
+use Rattle.laws.specs.Lists.{Every}
+use Rattle.laws.proofs.Lists.{true≢false}
 use Rattle.laws.specs.NameTable.{same-yes}
 use Rattle.edition_certificate_file.specs.declared.Fault.TheVariants.{Line}
 use Rattle.edition_certificate_file.specs.Files.{Kept, lastLine}

@@ -30,7 +30,7 @@ use Rattle.rules.specs.Base.{collect}
 use Rattle.rules.specs.Grammar.{ascii}
 use Rattle.rules.specs.Names.{Bytes, distinct}
 use Rattle.laws.specs.Lists.{Every}
-use Rattle.laws.specs.Contents.{collect-append}
+use Rattle.laws.proofs.Contents.{collect-append}
 use Rattle.edition_certificate_file.specs.declared.Fault.TheVariants.{Line}
 use Rattle.edition_certificate_file.specs.Files.{Kept, lastLine, keptText, keptsText}
 use Rattle.edition_certificate_file.specs.Reading.{

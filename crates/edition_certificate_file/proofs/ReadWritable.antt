@@ -48,8 +48,8 @@ use Rattle.rules.specs.Base.{any}
 use Rattle.rules.specs.Grammar.{ascii}
 use Rattle.rules.specs.Names.{Bytes, sameBytes, distinct}
 use Rattle.laws.specs.Lists.{Every}
-use Rattle.laws.specs.Contents.{any_append}
-use Rattle.laws.specs.NameTable.{same-no}
+use Rattle.laws.proofs.Contents.{any_append}
+use Rattle.laws.proofs.NameTable.{same-no}
 use Rattle.edition_certificate_file.specs.declared.Fault.{Fault}
 use Rattle.edition_certificate_file.specs.declared.Fault.TheVariants.{Other, Torn}
 use Rattle.edition_certificate_file.specs.Files.{Kept, firstLine, lastLine, keptsText}

@@ -2,7 +2,7 @@
 use Rattle.std.proofs.Common.{◌≡◌, sym, ap, ◌∙◌, ◌++◌, ◌∷◌, [], ◌+◌, ◌<◌, List, ℕ, length, take, get_or, append-nil, append_assoc, add-one, take-suc}
 use Rattle.rules.specs.Base.{collect}
 use Rattle.rules.specs.Names.{Bytes}
-use Rattle.laws.specs.Contents.{collect-append}
+use Rattle.laws.proofs.Contents.{collect-append}
 
 module _ {A : Type 0} (f : A → Bytes) (xs : List A) (old : Bytes) where
   pub none : old ≡ old ++ collect f []

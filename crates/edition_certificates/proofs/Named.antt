@@ -9,9 +9,11 @@ use Rattle.rules.specs.Reading.{readBound, read_all}
 use Rattle.rules.specs.Trees.{Open, var}
 use Rattle.rules.specs.WellFormed.{goodOpen, rising}
 use Rattle.rules.specs.Writing.{Rec, words, writeBound, word_of}
-use Rattle.laws.specs.Checks.{next-passed}
-use Rattle.laws.specs.Lists.{bound-step, Every}
-use Rattle.laws.specs.ReadLists.{IsBound, read-bound, read-all, words_back}
+use Rattle.laws.proofs.Checks.{next-passed}
+use Rattle.laws.specs.Lists.{Every}
+use Rattle.laws.proofs.Lists.{bound-step}
+use Rattle.laws.specs.ReadLists.{IsBound}
+use Rattle.laws.proofs.ReadLists.{read-bound, read-all, words_back}
 
 abbrev opens : List ℕ → List (Open ℕ)
 opens xs = map (λ n. var n) xs

@@ -7,15 +7,15 @@ use Rattle.rules.specs.Calls.{Entry, numbersGiven, type_at, bindingOf}
 use Rattle.rules.specs.Names.{table_of}
 use Rattle.rules.specs.Trees.{var, quant, par, Ty, opened, basic, dim, fn, struct, list, Con, equal, isDim, is_scalar, hasField, Binding, ◌≔◌, size, sizeCon}
 use Rattle.rules.specs.Views.{asVar}
-use Rattle.laws.specs.Checks.{next-passed}
-use Rattle.laws.specs.Lists.{some≢none, bound-step, each-parts}
+use Rattle.laws.proofs.Checks.{next-passed}
+use Rattle.laws.proofs.Lists.{some≢none, bound-step, each-parts}
 use Rattle.records.specs.Found.{Words32}
 use Rattle.records.specs.Holds.{Holds, HoldsCon}
 use Rattle.records.specs.Parsed.{only}
 use Rattle.records.specs.Views.{recs}
 use Rattle.judge_entries.proofs.Given.{type-is}
 use Rattle.library_pairs.specs.Pairs.{entriesIn}
-use Rattle.types.specs.Sets.{HoldsCons}
+use Rattle.types.proofs.OnSets.{HoldsCons}
 use Rattle.types.specs.Runs.{HoldsEach}
 use Rattle.edition_certificates.specs.Certificates.{lineOf, saying, pairOf, pairsOf, boundTo, bindingsIn}
 

@@ -7,10 +7,10 @@ use Rattle.rules.specs.Base.{got, ◌>>◌, all, sum_of}
 use Rattle.rules.specs.Calls.{aloneGiven, shortLists, tableKept, setCall, setGiven}
 use Rattle.rules.specs.Names.{table_of, lentTable}
 use Rattle.rules.specs.Trees.{Con, sizeCon}
-use Rattle.laws.specs.Checks.{need-passed, first-passed, next-passed, passed}
+use Rattle.laws.proofs.Checks.{need-passed, first-passed, next-passed, passed}
 use Rattle.laws.specs.Lists.{and_left}
 use Rattle.records.specs.Found.{Words32}
-use Rattle.records.specs.Whole.{entry-good}
+use Rattle.records.proofs.Whole.{entry-good}
 use Rattle.types.specs.Sets.{Cons, IsCons, one-set}
 use Rattle.judge.proofs.Rest.{set_there}
 use Rattle.edition_certificates.specs.Proposals.{Proposed, ProposedBy}

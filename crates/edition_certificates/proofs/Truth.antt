@@ -3,8 +3,8 @@ use Rattle.std.specs.Prelude.{◌≡◌, true, List, ℕ}
 use Rattle.rules.specs.Base.{got, need, all}
 use Rattle.rules.specs.Calls.{setCall, setGiven}
 use Rattle.rules.specs.Names.{table_of}
-use Rattle.laws.specs.Checks.{need-passed}
-use Rattle.laws.specs.Lists.{bound-step}
+use Rattle.laws.proofs.Checks.{need-passed}
+use Rattle.laws.proofs.Lists.{bound-step}
 use Rattle.records.specs.Found.{Words32}
 use Rattle.judge_entries.proofs.Given.{parts}
 use Rattle.library_pairs.specs.Pairs.{entriesIn}

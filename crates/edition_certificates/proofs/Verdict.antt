@@ -4,7 +4,7 @@ use Rattle.std.proofs.Common.{sym}
 use Rattle.rules.specs.Base.{got, refused}
 use Rattle.rules.specs.Calls.{aloneGiven, setCall, setGiven}
 use Rattle.rules.specs.Names.{table_of}
-use Rattle.laws.specs.Checks.{passed}
+use Rattle.laws.proofs.Checks.{passed}
 use Rattle.edition_certificates.specs.Certificates.{judged, verified}
 use Rattle.edition_certificates.specs.declared.inner.Proposal.{Proposal}
 use Rattle.edition_certificates.specs.Proposals.{Proposed}

@@ -8,10 +8,11 @@ use Rattle.sha2.specs.Sha256.{sha256}
 use Rattle.rules.specs.Names.{Bytes, table_of, tableGood, lengthsGood, names_of, distinct, cut, sameBytes}
 use Rattle.rules.specs.TextReading.{Sheet, sheet, refusedIn, sheetRead}
 use Rattle.rules.specs.Writing.{words, writeCon}
-use Rattle.laws.specs.NameTable.{Good, same-yes, same-no, same-is}
-use Rattle.laws.specs.Lists.{true≢false}
+use Rattle.laws.specs.NameTable.{Good, same-yes}
+use Rattle.laws.proofs.NameTable.{same-no, same-is}
+use Rattle.laws.proofs.Lists.{true≢false}
 use Rattle.records.specs.Found.{Words32}
-use Rattle.text_columns.specs.Left.{read-back, read-keeps-good}
+use Rattle.text_columns.proofs.Left.{read-back, read-keeps-good}
 use Rattle.text_sheet.specs.declared.Read.{Read}
 use Rattle.text_sheet.specs.declared.NotRead.{NotRead}
 use Rattle.edition.specs.Sheets.{ReadTo}

@@ -3,8 +3,9 @@ use Rattle.std.specs.Prelude.{◌≡◌, [], ◌∷◌, ◌++◌, ℕ, zero, suc
 use Rattle.std.proofs.Common.{ap, ◌∙◌, append-nil, add-one, take-suc, length-append, arith}
 use Rattle.rules.specs.Base.{collect}
 use Rattle.rules.specs.Names.{Bytes}
-use Rattle.laws.specs.Contents.{collect-append}
-use Rattle.text_spell.specs.Sinks.{Place, Puts, nothing}
+use Rattle.laws.proofs.Contents.{collect-append}
+use Rattle.text_spell.specs.Sinks.{Place, Puts}
+use Rattle.text_spell.proofs.Sinks.{nothing}
 
 module _ (f : ℕ → Bytes) where
   pub more : (t : Bytes) (i : ℕ) → i < length t → collect f (take (i + 1) t) ≡ collect f (take i t) ++ f (get_or t i 0)

@@ -7,7 +7,8 @@ use Rattle.rules.specs.Base.{all, collect}
 use Rattle.rules.specs.Grammar.{ascii}
 use Rattle.rules.specs.Names.{Bytes}
 use Rattle.rules.specs.TextWriting.{hexDigit}
-use Rattle.laws.specs.Lists.{Every, every_append, and_left, and_right}
+use Rattle.laws.specs.Lists.{Every, and_left, and_right}
+use Rattle.laws.proofs.Lists.{every_append}
 use Rattle.edition_html.specs.Pages.{plainBy, orElse, isControl, pageByte, harmless, IsPiece, AreBytes, IsAscii, NoMarkup}
 
 -- ══ Hex digits ══

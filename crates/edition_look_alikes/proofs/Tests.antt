@@ -7,7 +7,8 @@ use Rattle.std.proofs.Common.{sym, rules, refl}
 use Rattle.std.proofs.lemmas.Str.{IsUtf8-from_is_utf8, is_utf8-from_IsUtf8}
 use Rattle.caseless.specs.Caseless.{IsCompatibilityMatch}
 use Rattle.rules.specs.Names.{Bytes}
-use Rattle.laws.specs.NameTable.{same-yes, same-no}
+use Rattle.laws.specs.NameTable.{same-yes}
+use Rattle.laws.proofs.NameTable.{same-no}
 use Rattle.ucd_category.specs.declared.GeneralCategory.{GeneralCategory}
 use Rattle.ucd_category.specs.declared.GeneralCategory.TheVariants.{Format}
 use Rattle.edition_look_alikes.specs.Alike.{alike, isCf, isFormat, hasFormat}

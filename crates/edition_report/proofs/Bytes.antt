@@ -5,9 +5,10 @@ use Rattle.std.specs.Prelude.{Ok}
 use Rattle.std.proofs.lemmas.List.{map-append}
 use Rattle.rules.specs.Base.{collect}
 use Rattle.rules.specs.Names.{Bytes}
-use Rattle.laws.specs.Contents.{collect-append}
+use Rattle.laws.proofs.Contents.{collect-append}
 use Rattle.rules.specs.Reports.{firstShown, partShown, markShown, lineShown, room, shown}
-use Rattle.text_spell.specs.Sinks.{Place, Puts, nothing}
+use Rattle.text_spell.specs.Sinks.{Place, Puts}
+use Rattle.text_spell.proofs.Sinks.{nothing}
 
 -- ══ Bytes as they are shown ══
 

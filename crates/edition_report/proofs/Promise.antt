@@ -14,7 +14,8 @@ use Rattle.rules.specs.Judging.{judge, failing}
 use Rattle.rules.specs.Grammar.{ascii}
 use Rattle.rules.specs.TextWriting.{decimal, namesIn}
 use Rattle.rules.specs.declared.Unseen.TheVariants.{NotOpened, NotRead, TooLong}
-use Rattle.laws.specs.Lists.{Every, every_append, true≢false}
+use Rattle.laws.specs.Lists.{Every}
+use Rattle.laws.proofs.Lists.{every_append, true≢false}
 use Rattle.text_laws.specs.Lengths.{NotFeed}
 use Rattle.judge_trials.proofs.Failing.{none-fails}
 use Rattle.edition_report.specs.Theorems.{SaysAccepted, Accepted, AcceptedOn}

@@ -8,7 +8,8 @@ use Rattle.std.proofs.lemmas.List.{at_drop_more, at_drop_all, length-map}
 use Rattle.rules.specs.Base.{any, collect}
 use Rattle.rules.specs.Names.{Bytes, sameBytes}
 use Rattle.laws.specs.Lists.{Every}
-use Rattle.laws.specs.NameTable.{same-yes, same-no}
+use Rattle.laws.specs.NameTable.{same-yes}
+use Rattle.laws.proofs.NameTable.{same-no}
 use Rattle.edition.specs.Files.{files_of}
 use Rattle.edition.specs.declared.model.File.{File}
 use Rattle.edition_certificate_file.specs.declared.Entry.{Entry}

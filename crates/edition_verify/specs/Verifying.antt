@@ -1,5 +1,28 @@
 -- What is said of files by a certificate, with nothing solved.
-use Rattle.std.specs.Prelude.{◌≡◌, Bool, true, false, not, if◌then◌else◌, ℕ, eqb, ◌+◌, ◌-◌, List, [], ◌∷◌, ◌++◌, map, length, Option, Some, None, Result, Ok, Err}
+use Rattle.std.specs.Prelude.{
+  ◌≡◌,
+  Bool,
+  true,
+  false,
+  not,
+  if◌then◌else◌,
+  ℕ,
+  eqb,
+  ◌+◌,
+  ◌-◌,
+  List,
+  [],
+  ◌∷◌,
+  ◌++◌,
+  map,
+  length,
+  Option,
+  Some,
+  None,
+  Result,
+  Ok,
+  Err,
+}
 use Rattle.sha2.specs.Sha256.{sha256}
 use Rattle.rules.specs.Base.{any, collect, sum_of}
 use Rattle.rules.specs.Grammar.{ascii}

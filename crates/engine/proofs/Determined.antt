@@ -2,7 +2,7 @@
 use Rattle.std.specs.Prelude.{◌≡◌, refl, ℕ, Ok, Err}
 use Rattle.std.proofs.Math.Path.{ap}
 use Rattle.std.proofs.Common.{sym, ◌∙◌}
-use Rattle.laws.specs.Numbers.{number-injective}
+use Rattle.laws.proofs.Numbers.{number-injective}
 use Rattle.rules.specs.Numbers.{number, refusalEliminated}
 use Rattle.rules.specs.Elimination.{Elimination}
 use Rattle.engine.specs.declared.Eliminated.TheVariants.{Bound, Left}

@@ -13,19 +13,22 @@ use Rattle.rules.specs.Trees.{Atom, base, ◌↑◌, Product, is_scalar, size, s
 use Rattle.rules.specs.Products.{put}
 use Rattle.rules.specs.Writing.{Rec, rec, head, twos, writeFactor, writeProduct, writeTy, writeCon, writeBinding}
 use Rattle.rules.specs.Elimination.{Row, ◌gets◌, factors, boundBy}
-use Rattle.laws.specs.Contents.{collect-append}
-use Rattle.records.specs.Cut.{fit, fits}
+use Rattle.laws.proofs.Contents.{collect-append}
+use Rattle.records.specs.Cut.{fit}
+use Rattle.records.proofs.Cut.{fits}
 use Rattle.records.specs.Holds.{atomOf}
 use Rattle.records.specs.Views.{recOf}
 use Rattle.records.specs.declared.Open as names
 use Rattle.records.specs.declared.Atom as atoms
 use Rattle.records.specs.declared.View.TheVariants as view
-use Rattle.types.specs.Written.{Writes, Reserves, Begins, writes-none, writes-then, part-writes}
+use Rattle.types.specs.Written.{Writes, Reserves, Begins}
+use Rattle.types.proofs.Written.{writes-none, writes-then, part-writes}
 use Rattle.types.specs.declared.writer.Writer.{Writer}
 use Rattle.engine_matrix.specs.declared.inner.parts.Columns.{Columns}
-use Rattle.engine_matrix.specs.Machine.{colsIn, columns-few}
+use Rattle.engine_matrix.specs.Machine.{colsIn}
+use Rattle.engine_matrix.proofs.Machine.{columns-few}
 use Rattle.theorems_engine.proofs.Rows.{factors-few}
-use Rattle.engine_rows.specs.Atoms.{cols-long}
+use Rattle.engine_rows.proofs.Atoms.{cols-long}
 use Rattle.engine.specs.Put.{Factored}
 
 pub factor-record : (a : atoms.Atom) (n : ℤ) (d : ℕ) → recOf (view.Factor a (twos n) d) 1 ≡ writeFactor (atomOf a ↑ frac n d)

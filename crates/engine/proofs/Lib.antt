@@ -1,4 +1,6 @@
 mod Determined
+pub mod Entry
 mod Factors
+pub mod Reducing
 mod Started
 mod Written

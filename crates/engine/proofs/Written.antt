@@ -12,13 +12,14 @@ use Rattle.rules.specs.Refusals.{number_of}
 use Rattle.rules.specs.Trees.{Atom, Con, is_scalar, size, sizeCon, sizeBinding}
 use Rattle.rules.specs.Writing.{Rec, words, writeCon, writeBinding}
 use Rattle.rules.specs.declared.Refusal.{Refusal}
-use Rattle.laws.specs.Size.{words-length, size-con, size-binding, set-length, bindings-length}
+use Rattle.laws.proofs.Size.{words-length, size-con, size-binding, set-length, bindings-length}
 use Rattle.types.specs.Written.{Writes}
 use Rattle.types.specs.declared.writer.Writer.{Writer}
 use Rattle.engine_matrix.specs.declared.inner.parts.Columns.{Columns}
 use Rattle.engine_matrix.specs.declared.inner.parts.Machine.{Machine}
 use Rattle.rules.specs.Elimination.{Row, Value, ◌gets◌, factors, boundBy, Settled, settledBy, eliminatedOf, eliminatedWords, allBound, someLeft}
-use Rattle.engine_matrix.specs.Grids.{rowsIn, grid-long}
+use Rattle.engine_matrix.specs.Grids.{rowsIn}
+use Rattle.engine_matrix.proofs.Grids.{grid-long}
 use Rattle.engine_matrix.specs.Machine.{colsIn, pairValues, staying, bound}
 use Rattle.engine.specs.declared.Eliminated.TheVariants.{Bound, Left}
 use Rattle.engine.specs.Reducing.{settledIn}

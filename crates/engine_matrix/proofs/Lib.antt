@@ -1,3 +1,5 @@
+pub mod Grids
 mod Loops
-mod Steps
+pub mod Machine
 pub mod Sevens
+mod Steps

@@ -22,7 +22,7 @@ use Rattle.std.proofs.Math.Decide.{dec_lt}
 use Rattle.std.proofs.lemmas.List.{length-map, map-set, get_or_default, take_all}
 use Rattle.rules.specs.Base.{Got, got, refused, ◌>>=◌, bounded, each}
 use Rattle.rules.specs.Exponents.{Exp, nought, isZero, goodExp, sum}
-use Rattle.laws.specs.Lists.{alone}
+use Rattle.laws.proofs.Lists.{alone}
 use Rattle.exponents.specs.declared.Exponent.{Exponent}
 use Rattle.exponents.specs.Answers.{expOf}
 use Rattle.rules.specs.Elimination as Rows

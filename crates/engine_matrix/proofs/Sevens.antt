@@ -4,7 +4,7 @@ use Rattle.std.proofs.Math.Option.{Option, none, some}
 use Rattle.rules.specs.Base.{Got, bounded, allow, each}
 use Rattle.rules.specs.Exponents.{Exp, nought, neg, plus, mul, in_range, inverted, sum, times, timesInverse, quotient}
 use Rattle.rules.specs.Trees.{Atom, Product, Names}
-use Rattle.laws.specs.Refusing.{Refuses, given, next, refusing}
+use Rattle.laws.proofs.Refusing.{Refuses, given, next, refusing}
 use Rattle.rules.specs.Elimination.{
   Row,
   Value,

@@ -29,7 +29,8 @@ use Rattle.rules.specs.Elimination.{
   Reduced,
   eliminate,
 }
-use Rattle.engine_matrix.specs.Grids.{rowsIn, grid-long}
+use Rattle.engine_matrix.specs.Grids.{rowsIn}
+use Rattle.engine_matrix.proofs.Grids.{grid-long}
 use Rattle.engine_matrix.specs.Machine.{atomsFrom, pairValues, behind, whole, staying, bound, rest, firstRow, endOf}
 
 -- ══ One row ══

@@ -1,7 +1,5 @@
 -- The code's grids as lists of rows.
-use Rattle.std.specs.Prelude.{◌≡◌, true, false, List, map, ℕ, ◌<◌, ◌≤◌, length, take, get_or}
-use Rattle.std.proofs.Common.{◌∙◌}
-use Rattle.std.proofs.lemmas.List.{length-map}
+use Rattle.std.specs.Prelude.{◌≡◌, true, false, List, map, ℕ, ◌<◌, ◌≤◌, take, get_or}
 use Rattle.rules.specs.Exponents.{nought, isZero}
 use Rattle.engine_matrix.specs.declared.inner.parts.Grid.{Grid}
 use Rattle.rules.specs.Elimination as Rows
@@ -13,10 +11,6 @@ rowsIn g = map row_in g.rows
 -- the first m rows
 abbrev pub front : ℕ → Grid → List Rows.Row
 front m g = take m (rowsIn g)
-
-pub grid-long : (g : Grid) → length (rowsIn g) ≡ 24
-unfolding rowsIn
-grid-long g = length-map g.rows row_in ∙ g.long
 
 -- j is the first of n columns whose power isn't 0, or n
 pub record First (r : Rows.Row) (n j : ℕ) : Type 0 where

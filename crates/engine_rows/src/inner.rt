@@ -11,7 +11,7 @@ ghost use Rattle.engine_matrix.specs.Machine.{colsIn};
 ghost use Rattle.rules.specs.Contents.{sort};
 ghost use Rattle.rules.specs.Refusals.{toldBy};
 ghost use Rattle.laws.specs.Lists.{Every};
-ghost use Rattle.laws.specs.ReadLists as Below;
+ghost use Rattle.laws.proofs.ReadLists as Below;
 ghost use Rattle.records.specs.Good.{numbers};
 ghost use Rattle.queries.specs.Marks.{Has, Filled};
 ghost use Rattle.engine_rows.specs.Columns.{basesAtom, basesView, basesIn, Known, headed, listed};

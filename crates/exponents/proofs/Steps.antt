@@ -18,12 +18,13 @@ use Rattle.std.proofs.lemmas.Bool.Decides.{nat_tests}
 use Rattle.rules.specs.Base.{got, refused, bounded}
 use Rattle.rules.specs.Exponents.{Exp, frac, goodExp, gcd, lowest, top, in_range, isZero, ranged, inverted}
 use Rattle.rules.specs.Writing.{twos, signed, by_sign}
-use Rattle.laws.specs.Integers.{natAbs-neg, nat_abs_mul, natAbs-plus}
-use Rattle.laws.specs.Gcd.{gcd-pos, gcd-comm, gcd-end}
+use Rattle.laws.proofs.Integers.{natAbs-neg, nat_abs_mul, natAbs-plus}
+use Rattle.laws.proofs.Gcd.{gcd-pos, gcd-comm, gcd-end}
 use Rattle.std.specs.Int.Count.{count_trailing_zeros}
-use Rattle.laws.specs.Twos.{Shifted, WithoutTwos, gcd-shifted, gcd-shifted-right, trailing, gcd-odd-step, gcd-self, min-odd, without-le, gcd-one, gcd-fits}
-use Rattle.laws.specs.Fractions.{lowest-terms}
-use Rattle.laws.specs.Ranges.{Good, good, negation-is, inverted-good}
+use Rattle.laws.specs.Twos.{WithoutTwos}
+use Rattle.laws.proofs.Twos.{Shifted, gcd-shifted, gcd-shifted-right, trailing, gcd-odd-step, gcd-self, min-odd, without-le, gcd-one, gcd-fits}
+use Rattle.laws.proofs.Fractions.{lowest-terms}
+use Rattle.laws.proofs.Ranges.{Good, good, negation-is, inverted-good}
 use Rattle.exponents.specs.Answers.{with_sign}
 
 -- ══ Words ══

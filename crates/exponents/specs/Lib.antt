@@ -1,3 +1,2 @@
 pub mod Answers
-pub mod Determined
 pub mod Theorems

@@ -5,7 +5,7 @@ use Rattle.std.proofs.Math.Path.{ap}
 use Rattle.rules.specs.Calls.{Judged}
 use Rattle.rules.specs.Numbers.{refusalIn, number}
 use Rattle.rules.specs.declared.Refusal.{Refusal}
-use Rattle.laws.specs.Numbers.{told-injective, answer-in}
+use Rattle.laws.proofs.Numbers.{told-injective, answer-in}
 use Rattle.judge.specs.Told.{judgedAs}
 use Rattle.judge.specs.Theorems.{OneResult, JudgeDetermined, JudgeNumbered}
 

@@ -1,3 +1,5 @@
 mod Determined
+pub mod Entry
+pub mod Found
 pub mod Proposed
 pub mod Rest

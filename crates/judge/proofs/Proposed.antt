@@ -14,17 +14,17 @@ use Rattle.rules.specs.Names.{table_of, names_of, is_held}
 use Rattle.rules.specs.Replacing.{find, bindings}
 use Rattle.rules.specs.Trees.{Open, Ty, Binding, ◌≔◌, size}
 use Rattle.rules.specs.WellFormed.{goodTy, goodBinding}
-use Rattle.laws.specs.Lists.{some≢none}
+use Rattle.laws.proofs.Lists.{some≢none}
 use Rattle.laws.specs.NameTable.{Good, good-laid}
-use Rattle.laws.specs.Weaker.{ty-weaker}
+use Rattle.laws.proofs.Weaker.{ty-weaker}
 use Rattle.records.specs.ByView.{ends-in}
 use Rattle.records.specs.Good as records
 use Rattle.records.specs.Good.{numbers, holding}
-use Rattle.judge_entries.specs.Tables as tables
+use Rattle.judge_entries.proofs.Tables as tables
 use Rattle.judge_entries.proofs.Answers.{Bound}
 use Rattle.replace.specs.Places.{SaysAt, word_of}
-use Rattle.replace.specs.Runs.{looked-good}
-use Rattle.replace_table.specs.Filling as filling
+use Rattle.replace.proofs.Runs.{looked-good}
+use Rattle.replace_table.proofs.Filling as filling
 use Rattle.judge_proposals.specs.Mixed.{variable, Table}
 use Rattle.judge_proposals.proofs.Order.{find-no}
 use Rattle.judge_trials.specs.Trials.{Put}

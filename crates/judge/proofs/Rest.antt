@@ -10,17 +10,18 @@ use Rattle.rules.specs.Contents.{unmixed}
 use Rattle.rules.specs.Judging.{judge}
 use Rattle.rules.specs.Names.{table_of}
 use Rattle.rules.specs.Trees.{Con, Binding, opensCon}
-use Rattle.laws.specs.KnownNames.{every_append, binding-known}
+use Rattle.laws.proofs.Lists.{every_append}
+use Rattle.laws.proofs.KnownNames.{binding-known}
 use Rattle.laws.specs.NameTable.{good-laid}
 use Rattle.records.specs.Found.{Words32}
 use Rattle.records.specs.Good as records
 use Rattle.records.specs.Good.{numbers, holding}
-use Rattle.records.specs.Whole.{set_is}
-use Rattle.queries.specs.GoodOpens.{names-small}
+use Rattle.records.proofs.Whole.{set_is}
+use Rattle.queries.proofs.GoodOpens.{names-small}
 use Rattle.queries.specs.Marks.{Small}
-use Rattle.queries.specs.Runs.{AllKnown, set-opens, set_known}
+use Rattle.queries.proofs.Runs.{AllKnown, set-opens, set_known}
 use Rattle.queries.specs.Scans.{opensIn}
-use Rattle.replace.specs.Given.{given-cons}
+use Rattle.replace.proofs.Given.{given-cons}
 use Rattle.judge_entries.proofs.Answers.{Bound, placed-yes, placed-no}
 use Rattle.judge_entries.proofs.Placing.{placed}
 use Rattle.judge_entries.specs.Tables.{Made}

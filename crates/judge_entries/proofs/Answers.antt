@@ -9,11 +9,12 @@ use Rattle.rules.specs.Writing.{Rec}
 use Rattle.rules.specs.Reading.{records, readTy}
 use Rattle.rules.specs.WellFormed.{goodTy}
 use Rattle.rules.specs.Calls.{Entry, differ, numbersGiven, type_at, bindingOf, entriesGiven}
-use Rattle.laws.specs.Lists.{true≢false}
+use Rattle.laws.proofs.Lists.{true≢false}
 use Rattle.records.specs.Good.{goodBinding}
-use Rattle.judge_entries.specs.Entries.{variableOf, variablesOf}
+use Rattle.judge_entries.specs.Entries.{variablesOf}
+use Rattle.judge_entries.proofs.Entries.{variableOf}
 use Rattle.judge_entries.proofs.Given.{parts, good-all, same-variables}
-use Rattle.judge_entries.specs.Tables.{Tabled, Placed}
+use Rattle.judge_entries.proofs.Tables.{Tabled, Placed}
 
 -- ══ Entries are refused with 1 only ══
 

@@ -14,8 +14,10 @@ use Rattle.std.proofs.lemmas.List.{length-replicate}
 use Rattle.rules.specs.Base.{any}
 use Rattle.rules.specs.Calls.{Entry, differ}
 use Rattle.rules.specs.Refusals.{toldOption}
-use Rattle.laws.specs.Lists.{true≢false, and_left, and_right, not-true}
-use Rattle.laws.specs.ReadLists.{Every}
+use Rattle.std.proofs.lemmas.Bool.{not-true}
+use Rattle.laws.specs.Lists.{and_left, and_right}
+use Rattle.laws.proofs.Lists.{true≢false}
+use Rattle.laws.specs.Lists.{Every}
 use Rattle.judge_entries.specs.Entries.{variablesOf, place_of, slot_of, notedBelow, slots_of, bit, taken}
 
 -- ══ The slot of a name ══

@@ -12,10 +12,10 @@ use borrow.Author.Tests.{eqb-true, eqb-false}
 use lib.Dec.{eqb}
 use lib.ListN.{length, get_or, set, length-set}
 use lib.Seq.{get_or-set_same, get_or-set_other}
-use Rattle.records.specs.ByView.{in_reach}
+use Rattle.records.proofs.ByView.{in_reach}
 use Rattle.records.specs.Good.{Ends, GoodTy}
 use Rattle.judge_entries.specs.Entries.{bit, taken, slotWord}
-use Rattle.laws.specs.Lists.{true≢false}
+use Rattle.laws.proofs.Lists.{true≢false}
 use Rattle.judge_entries.specs.Tables.{Fits, WordFor, Filled}
 
 -- ══ A slot ══

@@ -14,16 +14,19 @@ use Rattle.rules.specs.Writing.{Rec}
 use Rattle.rules.specs.Reading.{readTy}
 use Rattle.rules.specs.Replacing.{find}
 use Rattle.rules.specs.Calls.{Entry, differ, numbersGiven, type_at, bindingOf, entriesGiven}
-use Rattle.laws.specs.NameTable.{held-is}
-use Rattle.laws.specs.Checks.{need-passed, first-passed, next-passed}
-use Rattle.laws.specs.Lists.{got≢refused, and_left, is-yes, is-no, bound-step, each-parts}
+use Rattle.laws.proofs.NameTable.{held-is}
+use Rattle.laws.proofs.Checks.{need-passed, first-passed, next-passed}
+use Rattle.laws.specs.Lists.{and_left, is-yes}
+use Rattle.laws.proofs.Lists.{got≢refused, is-no, bound-step, each-parts}
 use Rattle.records.specs.Views.{recs, from}
 use Rattle.records.specs.Places.{from-none, from_some}
 use Rattle.records.specs.Found.{Words32}
-use Rattle.records.specs.Given.{records-whole, records-broken, from_start, type-reader}
+use Rattle.records.specs.Given.{records-whole, records-broken}
+use Rattle.records.proofs.Given.{from_start, type-reader}
 use Rattle.rules.specs.WellFormed as rules
 use Rattle.records.specs.Good.{numbers, goodTy, goodBinding, GoodTy}
-use Rattle.judge_entries.specs.Entries.{variableOf, variablesOf, place_of, slot_of}
+use Rattle.judge_entries.specs.Entries.{variablesOf, place_of, slot_of}
+use Rattle.judge_entries.proofs.Entries.{variableOf}
 use Rattle.judge_entries.specs.Tables.{Fits}
 use Rattle.judge_entries.proofs.Counting.{Below, First}
 

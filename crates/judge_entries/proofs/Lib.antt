@@ -1,6 +1,8 @@
-pub mod Filling
-pub mod Turns
 pub mod Answers
 pub mod Counting
+pub mod Entries
+pub mod Filling
 pub mod Given
 pub mod Placing
+pub mod Tables
+pub mod Turns

@@ -9,11 +9,13 @@ use Rattle.rules.specs.Names.{table_of}
 use Rattle.rules.specs.Replacing.{find}
 use Rattle.rules.specs.Calls.{Entry, differ, entriesGiven}
 use Rattle.laws.specs.NameTable.{Good, good-laid}
-use Rattle.laws.specs.Lists.{got≢refused, not-false}
+use Rattle.std.proofs.lemmas.Bool.{not-false}
+use Rattle.laws.proofs.Lists.{got≢refused}
 use Rattle.records.specs.Found.{Words32}
 use Rattle.records.specs.Good.{numbers, GoodTy}
 use Rattle.judge_entries.specs.Entries.{variablesOf, place_of, slot_of, slots_of, slotWord}
-use Rattle.judge_entries.specs.Tables.{SaysAt, Placed, Fits, Asked, Filled, Made}
+use Rattle.judge_entries.specs.Tables.{Fits, Asked, Filled, Made}
+use Rattle.judge_entries.proofs.Tables.{SaysAt, Placed}
 use Rattle.judge_entries.proofs.Counting.{Below, slot_at, taken-below, below-taken, first-is}
 use Rattle.judge_entries.proofs.Given.{Agrees, Parts, agrees, held_all, bindings-there, parts, whole-given, type-is}
 

@@ -2,7 +2,6 @@
 use Rattle.std.specs.Prelude.{Option, None, Some, List, [], ◌∷◌, map, ℕ, zero, suc, ◌+◌, eqb, get_or, set, replicate}
 use Rattle.std.proofs.Math.Option as may
 use Rattle.rules.specs.Base.{◌or_else◌, only_if}
-use Rattle.rules.specs.Trees.{Binding, ◌≔◌}
 use Rattle.rules.specs.Calls as rules
 use Rattle.judge_entries.specs.declared.Entry.{Entry}
 
@@ -14,9 +13,6 @@ told es = map toldEntry es
 
 abbrev pub variablesOf : List rules.Entry → List ℕ
 variablesOf es = map (λ e. e.variable) es
-
-abbrev pub variableOf : Binding ℕ → ℕ
-variableOf (x ≔ t) = x
 
 -- the place in the first entry of a variable
 abbrev pub place_of : List rules.Entry → ℕ → may.Option ℕ

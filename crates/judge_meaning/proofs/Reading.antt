@@ -8,7 +8,7 @@ use Rattle.rules.specs.Products.{single}
 use Rattle.rules.specs.Trees as tree
 use Rattle.rules.specs.Trees.{Product, Ty, opened, basic, dim, fn, struct, list, Tys, nil, cons, Fields, noFields, field}
 use Rattle.rules.specs.Views.{productOf}
-use Rattle.laws.specs.Lists.{true≢false}
+use Rattle.laws.proofs.Lists.{true≢false}
 use Rattle.types.specs.Shapes.{Begins, row}
 use Rattle.types.specs.declared.Head.{Head}
 use Rattle.types.specs.declared.Head.TheVariants as head

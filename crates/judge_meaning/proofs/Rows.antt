@@ -4,7 +4,7 @@ use Rattle.std.proofs.Common.{ap, ap₂, sym, ◌∙◌, arith, eqb-true, eq-eqb
 use Rattle.rules.specs.Meaning.{means}
 use Rattle.rules.specs.Plain.{plain, plainTys}
 use Rattle.rules.specs.Trees.{Names, Ty, fn, struct, list, noFields, Tys, nil, cons, size, sizeTys, count}
-use Rattle.laws.specs.Lists.{true≢false}
+use Rattle.laws.proofs.Lists.{true≢false}
 use Rattle.types.specs.Shapes.{row}
 use Rattle.judge_meaning.proofs.Arms.{tells, never}
 

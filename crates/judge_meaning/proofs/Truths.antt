@@ -8,11 +8,13 @@ use Rattle.rules.specs.Meaning.{means, amongBounds, holds}
 use Rattle.rules.specs.Names.{Bytes, numbered}
 use Rattle.rules.specs.Trees.{Open, Product, Ty, opened, dim, struct, Tys, Fields, Con, equal, isDim, is_scalar, hasField, opens, opensCon}
 use Rattle.rules.specs.Views.{openOf, productOf, struct_of}
-use Rattle.laws.specs.Contents.{same-eqb}
-use Rattle.laws.specs.Lists.{all-is, is_all, any-is, is_any, true≢false}
+use Rattle.laws.proofs.Contents.{same-eqb}
+use Rattle.laws.specs.Lists.{all-is}
+use Rattle.laws.proofs.Lists.{is_all, any-is, is_any, true≢false}
 use Rattle.queries.specs.declared.name_set.NameSet.{NameSet}
 use Rattle.queries.specs.Marks.{Has, Small, Within}
-use Rattle.queries.specs.MarkLaws.{any-in, in-every, chosen-below}
+use Rattle.laws.proofs.SortedNames.{in-every}
+use Rattle.queries.proofs.MarkLaws.{any-in, chosen-below}
 use Rattle.queries.specs.declared.Kind.TheVariants.{Both}
 use Rattle.types.specs.Shapes.{whole, Begins}
 use Rattle.types.specs.declared.Fields as fields

@@ -14,12 +14,12 @@ use Rattle.rules.specs.Calls.{differ, opensBinding}
 use Rattle.rules.specs.Names.{Bytes, numbered}
 use Rattle.rules.specs.Replacing.{find}
 use Rattle.rules.specs.Trees.{Open, Ty, Binding, ◌≔◌}
-use Rattle.laws.specs.Contents.{any_append}
-use Rattle.laws.specs.Lists.{some≢none, true≢false}
+use Rattle.laws.proofs.Contents.{any_append}
+use Rattle.laws.proofs.Lists.{some≢none, true≢false}
 use Rattle.queries.specs.declared.name_set.NameSet.{NameSet}
 use Rattle.queries.specs.Marks.{Has}
 use Rattle.queries.specs.Scans.{choose}
-use Rattle.queries.specs.ScanLaws.{choose-append, choose-none}
+use Rattle.queries.proofs.ScanLaws.{choose-append, choose-none}
 use Rattle.queries.specs.declared.Kind.{Kind}
 use Rattle.types.proofs.FieldsFound.{named-same}
 use Rattle.judge_proposals.specs.Mixed.{variable, opens_of, opensBelow, Table}

@@ -1,6 +1,6 @@
 -- Word 0 of a record: kind and length are had back from it, and it is made of them; a part that is read lasts as long as it says.
-use Rattle.std.specs.Prelude.{◌≡◌, List, ◌∷◌, ◌++◌, ℕ, suc, ◌+◌, ◌<◌, length}
-use Rattle.std.proofs.Common.{arith, eq-eqb, length-append}
+use Rattle.std.specs.Prelude.{◌≡◌, List, ◌∷◌, ℕ, suc, ◌+◌, ◌<◌, length}
+use Rattle.std.proofs.Common.{arith, eq-eqb}
 use Rattle.std.proofs.Math.Option.{some}
 use Rattle.rules.specs.Writing.{Rec, rec, head, kindIn, lengthIn}
 use Rattle.rules.specs.Reading.{Reader, lasting, next}
@@ -25,7 +25,3 @@ lasts n m a rest e = rw (eq-eqb (n + length rest) m e)
 pub next-back : {A : Type 0} (f : ℕ → ℕ → ℕ → ℕ → Reader A) (k n a b c : ℕ) (rs rest : List Rec) (x : A)
     → k < 65_536 → f k a b c rs ≡ some (x, rest) → n + length rest ≡ suc (length rs) → next f (rec (head k n) a b c ∷ rs) ≡ some (x, rest)
 next-back f k n a b c rs rest x h e l = rw (kind-head k n h, length-head k n h, e) (lasts n (suc (length rs)) x rest l)
-
--- as many records as a head and its body
-pub head-length : (body rest : List Rec) (n : ℕ) → suc (length body) ≡ n → n + length rest ≡ suc (length (body ++ rest))
-head-length body rest n e = omega (arith, length-append body rest)

@@ -1,1 +1,2 @@
+pub mod OnPlacing
 mod Stores

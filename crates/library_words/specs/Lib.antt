@@ -1,4 +1,3 @@
 -- What the contracts of this crate cite, and where a name stands.
 pub mod Words
 pub mod Factors
-pub mod Placing

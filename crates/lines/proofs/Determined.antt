@@ -1,6 +1,6 @@
 -- The contract leaves no choice, and the answer has the number of its outcome.
 use Rattle.rules.specs.Lines.{checkLineCall}
-use Rattle.records_buffers.specs.Determined.{written-determined, written-numbered}
+use Rattle.records_buffers.proofs.Determined.{written-determined, written-numbered}
 use Rattle.lines.specs.Theorems.{CheckLineDetermined, CheckLineNumbered}
 
 pub check-line-determined : CheckLineDetermined

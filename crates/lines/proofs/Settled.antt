@@ -15,13 +15,14 @@ use Rattle.rules.specs.Writing.{Rec}
 use Rattle.rules.specs.Lines.{settled, agreed, settledSet, agreedSet}
 use Rattle.rules.specs.declared.Refusal.{Refusal}
 use Rattle.rules.specs.declared.Refusal.TheVariants.{Mixed}
-use Rattle.laws.specs.Lists.{is_all, all-every}
+use Rattle.laws.specs.Lists.{all-every}
+use Rattle.laws.proofs.Lists.{is_all}
 use Rattle.laws.specs.NameTable.{Good}
 use Rattle.theorems_soundness.proofs.Words.{numbers-ordered}
 use Rattle.theorems_soundness.proofs.Form.{solved-form}
 use Rattle.records.specs.Good.{numbers, holding}
 use Rattle.queries.specs.Scans.{opensIn}
-use Rattle.records_buffers.specs.Handed.{made-refused}
+use Rattle.records_buffers.proofs.Handed.{made-refused}
 use Rattle.records_buffers.specs.Told.{Made}
 use Rattle.solve.specs.Told.{StandsBy, Stands}
 use Rattle.solve_finish.specs.Told.{IsSolved}
@@ -29,7 +30,8 @@ use Rattle.solve_finish.specs.declared.Finish.{Finish}
 use Rattle.solve.specs.declared.Solution.{Solution}
 use Rattle.solve_finish.specs.declared.Finish.TheVariants as finish
 use Rattle.judge.specs.Found.{FoundThere}
-use Rattle.lines.specs.Standing.{SetStands, set-opens}
+use Rattle.lines.specs.Standing.{SetStands}
+use Rattle.lines.proofs.Standing.{set-opens}
 use Rattle.lines.specs.Typed.{typeRecs, judgedType, setType}
 
 -- ══ The outcomes of solving ══

@@ -1,5 +1,4 @@
 pub mod Nested
-pub mod Slices
 pub mod Standing
 pub mod Theorems
 pub mod Typed

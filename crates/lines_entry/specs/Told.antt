@@ -1,7 +1,5 @@
 -- Steps that were read, as the rules have them.
-use Rattle.std.specs.Prelude.{◌≡◌, List, ℕ, map, length, take}
-use Rattle.std.proofs.Common.{arith, length-take}
-use Rattle.std.proofs.lemmas.List.{length-map}
+use Rattle.std.specs.Prelude.{List, ℕ, map, take}
 use Rattle.rules.specs.Trees.{Ty}
 use Rattle.rules.specs.Steps.{adds, subtracts, multiplies, divides, compares, LineStep, constant, reference, raises, joins, chooses}
 use Rattle.rules.specs.Steps as rules
@@ -32,6 +30,3 @@ stepOf step.Choose = chooses
 
 abbrev pub stepsOf : Steps → List (LineStep ℕ)
 stepsOf s = map stepOf (take s.len s.list)
-
-pub steps-long : (s : Steps) → length (stepsOf s) ≡ s.len
-steps-long s = omega (arith, length-map (take s.len s.list) stepOf, length-take s.len s.list, s.few, s.full)

@@ -6,15 +6,17 @@ use Rattle.std.proofs.Math.Option.{none, some}
 use Rattle.rules.specs.Base.{collect}
 use Rattle.rules.specs.Trees.{Names}
 use Rattle.rules.specs.Writing.{writeCon}
-use Rattle.laws.specs.Contents.{collect-append}
-use Rattle.types.specs.Written.{Writes, writes-then, writes-none}
+use Rattle.laws.proofs.Contents.{collect-append}
+use Rattle.types.specs.Written.{Writes}
+use Rattle.types.proofs.Written.{writes-then, writes-none}
 use Rattle.types.specs.declared.writer.Writer.{Writer}
 use Rattle.rules.specs.Steps.{LineStep, Deed, operands, takes}
 use Rattle.rules.specs.Lines.{issued, constraints}
 use Rattle.lines_entry.specs.Told.{stepOf}
 use Rattle.lines_entry.specs.declared.inner.steps.Step.{Step}
 use Rattle.std.proofs.lemmas.List.{drop_all, drop_more, drop-set, take_all}
-use Rattle.lines_set.specs.Deeds.{deedOf, takenBy, took}
+use Rattle.lines_set.specs.Deeds.{deedOf, takenBy}
+use Rattle.lines_set.proofs.OnDeeds.{took}
 use Rattle.lines_set.specs.declared.deeds.Deed as code
 
 whole-stack : (stack : List ℕ) (p m : ℕ) → length stack ≤ p + m → take m (drop p stack) ≡ drop p stack

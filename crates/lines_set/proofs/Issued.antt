@@ -16,8 +16,9 @@ use Rattle.records.specs.declared.Atom.TheVariants as atoms
 use Rattle.records.specs.declared.Basic.TheVariants as basics
 use Rattle.records.specs.declared.Open.TheVariants as opens
 use Rattle.records.specs.declared.View.TheVariants as view
-use Rattle.types.specs.Written.{Writes, writes-then}
-use Rattle.types.specs.Puts.{equal-writes}
+use Rattle.types.specs.Written.{Writes}
+use Rattle.types.proofs.Written.{writes-then}
+use Rattle.types.proofs.Puts.{equal-writes}
 use Rattle.types.specs.declared.writer.Writer.{Writer}
 use Rattle.rules.specs.Steps.{adds, compares, gives, raised, chosen}
 use Rattle.lines_entry.specs.Told.{twoOf}

@@ -9,8 +9,9 @@ use lib.ListN.{get_or, length}
 use Rattle.std.proofs.lemmas.Bool.Decides.{nat_tests}
 use Rattle.rules.specs.Base.{Got, got, refused, ◌>>◌, need}
 use Rattle.rules.specs.Names.{table_of, names_of, tableGiven, nameAsked, unchanged, enterChecks, enterChecked, enter}
-use Rattle.laws.specs.Lists.{clash}
-use Rattle.laws.specs.NameTable.{Good, given-good}
+use Rattle.laws.proofs.Lists.{clash}
+use Rattle.laws.specs.NameTable.{Good}
+use Rattle.laws.proofs.NameTable.{given-good}
 use Rattle.names.specs.Told.{refusalOf}
 
 -- `check_number`

@@ -9,12 +9,14 @@ use Rattle.std.specs.Ordering.{nat_cmp, ordering_then}
 use Rattle.std.specs.Cmp.Lexicographic.{slice_cmp}
 use native.Mathlib.Omega.{arith}
 use Rattle.rules.specs.Names.{Bytes, then, orderBytes, sameBytes}
-use Rattle.laws.specs.Order.{self}
+use Rattle.laws.proofs.Order.{self}
 use Rattle.laws.specs.ByteOrder.{bytes_same, bytes-lawful}
-use Rattle.laws.specs.NameTable.{same-yes, same-no}
+use Rattle.laws.specs.NameTable.{same-yes}
+use Rattle.laws.proofs.NameTable.{same-no}
 use Rattle.std.specs.declared.cmp.Ordering as std
 use Rattle.std.specs.declared.cmp.Ordering.TheVariants.{Less, Equal, Greater}
-use Rattle.names.specs.Told.{toldOrder, ordered}
+use Rattle.names.specs.Told.{toldOrder}
+use Rattle.names.proofs.Told.{ordered}
 
 module _ (n m : Bytes) where
   pub hit : toldOrder Equal ≡ orderBytes n m → sameBytes n m ≡ true

@@ -11,7 +11,7 @@ use Rattle.rules.specs.Numbers.{refusalIn, number}
 use Rattle.rules.specs.Refusals.{told, numberAnswer}
 use Rattle.rules.specs.declared.Refusal.{Refusal}
 use Rattle.rules.specs.declared.Was.{Was}
-use Rattle.laws.specs.Numbers.{told-injective, answer-in}
+use Rattle.laws.proofs.Numbers.{told-injective, answer-in}
 use Rattle.std.specs.declared.cmp.Ordering.{Ordering}
 use Rattle.std.specs.declared.cmp.Ordering.TheVariants.{Less, Equal, Greater}
 use Rattle.names.specs.Theorems.{OneResult}

@@ -25,30 +25,12 @@ use Rattle.rules.specs.Names.{
 }
 use Rattle.rules.specs.declared.Was.{Was}
 use Rattle.rules.specs.declared.Was.TheVariants.{New, Known}
-use Rattle.laws.specs.Order.{self}
+use Rattle.laws.proofs.Order.{self}
 use Rattle.laws.specs.ByteOrder.{bytes-lawful}
-use Rattle.laws.specs.NameTable.{
-  Good,
-  good-laid,
-  good-given,
-  length-names,
-  good-distinct,
-  distinct-same,
-  held_tells,
-  Asked,
-  asked-name,
-  name-asked,
-  search-none,
-  free-is,
-  start_at,
-  part_of,
-  start-in,
-  part_length,
-  name-is,
-  placed,
-  new_is,
-}
-use Rattle.laws.specs.Entering.{
+use Rattle.laws.specs.NameTable.{Good, good-laid, length-names, good-distinct, distinct-same, held_tells, start_at}
+use Rattle.laws.proofs.NameTable.{good-given, Asked, asked-name, name-asked, search-none, free-is, part_of, start-in, part_length, name-is, placed, new_is}
+use Rattle.laws.specs.Entering.{SameFront}
+use Rattle.laws.proofs.Entering.{
   Enters,
   Passed,
   checks-refuse,
@@ -64,7 +46,6 @@ use Rattle.laws.specs.Entering.{
   good-with,
   pool-behind,
   table-behind,
-  SameFront,
   same_answer,
   same_asked,
 }

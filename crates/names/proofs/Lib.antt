@@ -1,4 +1,6 @@
-pub mod Compared
 pub mod Asked
+pub mod Compared
 mod Determined
+pub mod Digests
 mod Kept
+pub mod Told

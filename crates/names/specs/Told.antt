@@ -1,11 +1,6 @@
 -- The answers of the code as values of the rules.
 use Rattle.std.specs.Prelude.{Result, List, [], ◌≡◌, get_or}
-use Rattle.std.specs.Prelude.{◌⊎◌, ◌<◌}
-use Rattle.std.specs.Ordering.{nat_cmp}
-use Rattle.std.proofs.Common.{inl, inr, arith}
-use Rattle.std.proofs.lemmas.Bool.{cases_order, le-ltb, lt-ltb}
-use Rattle.laws.specs.ByteOrder.{compare-equal, compare-below, compare-above}
-use Prim.Native.Nat.{ℕ, ◌+◌, compare, Ordering}
+use Prim.Native.Nat.{ℕ, ◌+◌, Ordering}
 use Rattle.std.specs.Borrow.{Bor}
 use Rattle.rules.specs.Base.{Got, got, refused}
 use Rattle.rules.specs.Refusals.{told}
@@ -20,15 +15,6 @@ abbrev pub toldOrder : std.Ordering → Ordering
 toldOrder Less = Ordering.lt
 toldOrder Equal = Ordering.eq
 toldOrder Greater = Ordering.gt
-
--- std's order of numbers is the rules'
-pub ordered : (x y : ℕ) → toldOrder (nat_cmp x y) ≡ compare x y
-ordered x y = go (cases_order x y)
-  where
-    go : (x ≡ y) ⊎ ((x < y) ⊎ (y < x)) → toldOrder (nat_cmp x y) ≡ compare x y
-    go (inl e) = rw (compare-equal x y e, le-ltb x y (omega arith))
-    go (inr (inl h)) = rw (compare-below x y h, lt-ltb x y h)
-    go (inr (inr h)) = rw (compare-above x y h, le-ltb x y (omega arith))
 
 -- an answer, with what pool and table hold afterwards
 abbrev pub entered : Result (ℕ × Was) Refusal → List ℕ → List ℕ → Entered

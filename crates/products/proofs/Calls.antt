@@ -8,11 +8,12 @@ use Rattle.rules.specs.Base.{got}
 use Rattle.laws.specs.NameTable.{Good}
 use Rattle.products.specs.declared.Product.{Product}
 use Rattle.products.specs.Told.{given}
-use Rattle.products.specs.Held.{Well, taken-well, well-sound, refused-one}
-use Rattle.products.specs.Places.{given-len}
-use Rattle.products.specs.Entry.{
+use Rattle.products.specs.Held.{Well}
+use Rattle.products.proofs.Held.{taken-well, well-sound, refused-one}
+use Rattle.products.proofs.Places.{given-len}
+use Rattle.products.specs.Entry.{entry_of}
+use Rattle.products.proofs.Entry.{
   Entered,
-  entry_of,
   entered,
   entry-good,
   multiply-stopped,

@@ -54,7 +54,7 @@ fn is_sound(f: Factor, names: NameTable) -> bool
     }
 }
 
-#[tactic(auto, using(names::specs::Told::ordered))]
+#[tactic(auto, using(names::proofs::Told::ordered))]
 fn order_numbers(m: u32, n: u32) -> Ordering
     ensures { toldOrder result ≡ compare m n }
 {

@@ -7,7 +7,7 @@ use Rattle.rules.specs.Calls.{Listed}
 use Rattle.rules.specs.Numbers.{listed, refusalIn, number}
 use Rattle.rules.specs.Refusals.{numberAnswer}
 use Rattle.rules.specs.declared.Refusal.{Refusal}
-use Rattle.laws.specs.Numbers.{told-injective, answer-in}
+use Rattle.laws.proofs.Numbers.{told-injective, answer-in}
 use Rattle.queries.specs.Told.{listedAs}
 use Rattle.queries.specs.Theorems.{OneAnswer, NumberedAs}
 

@@ -8,7 +8,7 @@ use lib.Dec.{eqb}
 use Rattle.std.specs.Prelude.{Option, Some, None, option_to_list}
 use Rattle.std.specs.Option.{is_some, option_eq}
 use Rattle.rules.specs.Base.{any, isNil}
-use Rattle.laws.specs.Lists.{true≢false}
+use Rattle.laws.proofs.Lists.{true≢false}
 use Rattle.records.specs.Holds.{openOf}
 use Rattle.records.specs.Views.{viewAt}
 use Rattle.records.specs.declared.Atom as atoms
@@ -16,7 +16,7 @@ use Rattle.records.specs.declared.Open as code
 use Rattle.records.specs.declared.View.{View}
 use Rattle.records.specs.declared.View.TheVariants as view
 use Rattle.queries.specs.Scans.{toldOpens, opensView, opensIn}
-use Rattle.queries.specs.ScanLaws.{nil-hit, nil-miss}
+use Rattle.queries.proofs.ScanLaws.{nil-hit, nil-miss}
 
 -- no open name stands in a record that is no open type, no factor and no binding
 module _ (v : View) (opened : (o : code.Open) → v ≡ view.Opened o → ⊥) (factor : (a : atoms.Atom) (n d : ℕ) → v ≡ view.Factor a n d → ⊥)

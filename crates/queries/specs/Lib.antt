@@ -1,10 +1,4 @@
 pub mod Scans
 pub mod Marks
-pub mod ScanLaws
-pub mod MarkLaws
-pub mod SortMarks
-pub mod GoodOpens
-pub mod Runs
 pub mod Told
 pub mod Theorems
-pub mod Answers

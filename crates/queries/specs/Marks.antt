@@ -4,7 +4,7 @@ use Prim.Native.Nat.{ℕ, suc, ◌<◌, Ordering}
 use Rattle.rules.specs.Base.{any}
 use Rattle.rules.specs.Trees.{Open, var, quant, par, Names}
 use Rattle.rules.specs.Calls.{over}
-use Rattle.laws.specs.ReadLists.{Every}
+use Rattle.laws.specs.Lists.{Every}
 use Rattle.queries.specs.declared.name_set.NameSet.{NameSet}
 
 -- the marks are at these names

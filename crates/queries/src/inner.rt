@@ -5,7 +5,7 @@ ghost use Rattle.rules.specs.Base.{any, isNil};
 ghost use Rattle.rules.specs.Trees.{Ty, size};
 ghost use Rattle.rules.specs.Names.{Bytes, numbered};
 ghost use Rattle.rules.specs.Contents.{closed, unmixed, sort};
-ghost use Rattle.laws.specs.ReadLists.{Every};
+ghost use Rattle.laws.specs.Lists.{Every};
 ghost use Rattle.names.specs.Told.{toldOrder};
 ghost use Rattle.records.specs.Views.{viewAt};
 ghost use Rattle.records.specs.Holds.{openOf, atomOf, Holds};

@@ -5,25 +5,10 @@ use Rattle.std.proofs.Common.{ap, ◌∙◌, arith, eqb-true}
 use Rattle.std.proofs.lemmas.Bool.{eqb-false}
 use Rattle.rules.specs.Trees.{Product, Ty, Con, Binding, size, sizeCon, sizeBinding, depth, depthCon, depthBinding}
 use Rattle.records.specs.Views.{longAt}
-use Rattle.records.specs.Holds.{
-  Shows,
-  Long,
-  HoldsFactors,
-  HoldsProduct,
-  Body,
-  BodyCon,
-  BodyBinding,
-  holds-long,
-  holds-body,
-  body-holds,
-  con-long,
-  con-body,
-  body-con,
-  binding-long,
-  binding-body,
-  body-binding,
-}
-use Rattle.records.specs.Parsed.{only, only-body, only-con-body, only-binding-body}
+use Rattle.records.specs.Holds.{Shows, Long, HoldsFactors, HoldsProduct, BodyCon, BodyBinding, con-body, binding-body}
+use Rattle.records.proofs.Holds.{Body, holds-long, holds-body, body-holds, con-long, body-con, binding-long, body-binding}
+use Rattle.records.specs.Parsed.{only, only-con-body, only-binding-body}
+use Rattle.records.proofs.Parsed.{only-body}
 use Rattle.records.specs.Good.{Ends, endIf, closedAt, goodProduct, goodTy, goodCon, goodBinding}
 use Rattle.records.specs.Readers.{TypeAt, ProductAt, ConstraintAt, BindingAt}
 use Rattle.records.specs.declared.reader.Reader.{Reader}

@@ -5,7 +5,7 @@ use Rattle.std.proofs.Common.{sym, ◌∙◌}
 use Rattle.rules.specs.Base.{Got}
 use Rattle.rules.specs.Numbers.{refusalIn, number}
 use Rattle.rules.specs.Writing.{Rec, rec}
-use Rattle.laws.specs.Numbers.{told-injective, answer-in}
+use Rattle.laws.proofs.Numbers.{told-injective, answer-in}
 use Rattle.names.specs.Theorems.{OneAnswer}
 use Rattle.records.specs.declared.Words.{Words}
 use Rattle.records.specs.Theorems.{OneRecord, NumberedAs}

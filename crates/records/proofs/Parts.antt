@@ -16,7 +16,7 @@ use Rattle.laws.specs.Lists.{and_left as both_left, and_right as both_right}
 use Rattle.records.specs.Views.{viewAt}
 use Rattle.records.specs.Holds.{openOf, viewOpen, Holds, HoldsProduct, HoldsBinding, BodyCon, BodyBinding, con-body}
 use Rattle.records.specs.ByView.{ArmsCon, con-by-body, open-back}
-use Rattle.records.specs.Moves.{part-moves, one-part}
+use Rattle.records.proofs.Moves.{part-moves, one-part}
 use Rattle.records.specs.Parsed.{only}
 use Rattle.records.specs.Good.{Ends, closedAt, holding, goodOpen, goodTy, goodCon, Chain, Chained}
 use Rattle.records.proofs.Closing.{Closes, closing, product-closed, con-closed, binding-closed}

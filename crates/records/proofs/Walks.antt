@@ -42,26 +42,12 @@ use Rattle.rules.specs.Trees.{
 use Rattle.rules.specs.Writing.{twos, signed}
 use Rattle.rules.specs.WellFormed as rules
 use Rattle.rules.specs.WellFormed.{rising, fieldNames}
-use Rattle.laws.specs.Written.{unsigned}
+use Rattle.laws.proofs.Written.{unsigned}
 use Rattle.laws.specs.Lists.{and_left as both_left, and_right as both_right}
 use Rattle.records.specs.Views.{viewAt, longAt}
-use Rattle.records.specs.Holds.{
-  openOf,
-  viewOpen,
-  atomOf,
-  viewAtom,
-  basicOf,
-  viewBasic,
-  Long,
-  HoldsFactor,
-  HoldsFactors,
-  Holds,
-  HoldsTys,
-  HoldsFields,
-  Body,
-  holds-body,
-}
-use Rattle.records.specs.ByView.{Arms, by-body, factor-by-view}
+use Rattle.records.specs.Holds.{openOf, viewOpen, atomOf, viewAtom, basicOf, viewBasic, Long, HoldsFactor, HoldsFactors, Holds, HoldsTys, HoldsFields}
+use Rattle.records.proofs.Holds.{Body, holds-body}
+use Rattle.records.proofs.ByView.{Arms, by-body, factor-by-view}
 use Rattle.records.specs.Parsed.{only, only-tys}
 use Rattle.records.specs.Good.{
   Ends,

@@ -1,17 +1,13 @@
 pub mod Views
 pub mod Cut
-pub mod Stores
-pub mod Buffers
 pub mod Places
 pub mod Holds
 pub mod ByView
-pub mod Held
 pub mod Parsed
 pub mod Found
 pub mod Good
 pub mod Readers
 pub mod Moves
 pub mod Given
-pub mod Whole
 pub mod Schemes
 pub mod Theorems

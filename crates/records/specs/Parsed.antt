@@ -37,33 +37,14 @@ use Rattle.rules.specs.Trees.{
   size,
   sizeTys,
   sizeFields,
-  sizeCon,
-  sizeBinding,
   depth,
   depthTys,
   depthFields,
-  depthCon,
-  depthBinding,
   count,
   countFields,
 }
 use Rattle.rules.specs.Writing.{Rec, rec, head, twos}
-use Rattle.rules.specs.Reading.{
-  Reader,
-  next,
-  factorKinds,
-  readFactors,
-  readTys,
-  fieldKinds,
-  readFields,
-  typeKinds,
-  readTy,
-  scalarKinds,
-  conKinds,
-  readCon,
-  bindingKinds,
-  readBinding,
-}
+use Rattle.rules.specs.Reading.{Reader, next, factorKinds, readFactors, readTys, fieldKinds, readFields, typeKinds, readTy}
 use Rattle.records.specs.Views.{from}
 use Rattle.records.specs.Places.{from-length, seen-in, seen}
 use Rattle.records.specs.Holds.{
@@ -79,13 +60,12 @@ use Rattle.records.specs.Holds.{
   HoldsFields,
   HoldsCon,
   HoldsBinding,
-  Body,
   BodyCon,
   BodyBinding,
   con-body,
   binding-body,
 }
-use Rattle.records.specs.ByView.{open-back, basic-back, by-body, con-by-body, product-in, ends-in, con-in, binding-in}
+use Rattle.records.specs.ByView.{con-by-body, product-in, ends-in}
 use Rattle.records.specs.declared.View.TheVariants as view
 
 -- a limit that leaves room for one level
@@ -190,36 +170,6 @@ module _ (s : List ℕ) where
         (rw (read t d (at + 1) h.1 (omega arith), u)) (omega arith) (omega (arith, ends-in s t (at + 1) h.1)) in
         rw (one, ← u) (rw (fields_read fs d (at + 1 + size t) h.2 (omega arith), u, q))
 
-  pub con-read : (c : Con ℕ) (at : ℕ) → HoldsCon s c at → depthCon c ≤ 64 → Gives (readCon (from s at)) c (at + sizeCon c)
-  unfolding HoldsCon HoldsProduct sizeCon size depthCon readCon all
-  con-read (equal l r) at h k =
-      let q : at + 1 + size l + size r ≡ at + suc (size l + size r) = omega arith in
-      by_first (conKinds (readTy 64)) 20 (suc (size l + size r)) 0 0 0 at (equal l r) (omega arith) (seen s at h.0 h.3 tt)
-      (rw (read l 64 (at + 1) h.1 (omega arith), read r 64 (at + 1 + size l) h.2 (omega arith), q)) (omega arith) (con-in s (equal l r) at h)
-  con-read (isDim t) at h k =
-      let q : at + 1 + size t ≡ at + suc (size t) = omega arith in
-      by_first (conKinds (readTy 64)) 21 (suc (size t)) 0 0 0 at (isDim t) (omega arith) (seen s at h.0 h.2 tt) (rw (read t 64 (at + 1) h.1 k, q))
-      (omega arith) (con-in s (isDim t) at h)
-  con-read (is_scalar p) at h k =
-      let q : at + 1 + 1 + length p ≡ at + 1 + suc (length p) = omega arith in
-      let u : at + 1 + suc (length p) ≡ at + suc (suc (length p)) = omega arith in
-      let one : Gives (next scalarKinds (from s (at + 1))) (is_scalar p) (at + 1 + suc (length p)) =
-      by_first scalarKinds 3 (suc (length p)) (length p) 0 0 (at + 1) (is_scalar p) (omega arith) (seen s (at + 1) h.1.0 h.1.2 tt)
-      (rw (factors-read p (at + 1 + 1) h.1.1, q)) (omega arith) (product-in s p (at + 1) h.1) in
-      by_first (conKinds (readTy 64)) 22 (suc (suc (length p))) 0 0 0 at (is_scalar p) (omega arith) (seen s at h.0 h.2 tt) (rw (one, u))
-      (omega arith) (con-in s (is_scalar p) at h)
-  con-read (hasField n l r) at h k =
-      let q : at + 1 + size l + size r ≡ at + suc (size l + size r) = omega arith in
-      by_first (conKinds (readTy 64)) 23 (suc (size l + size r)) n 0 0 at (hasField n l r) (omega arith) (seen s at h.0 h.3 tt)
-      (rw (read l 64 (at + 1) h.1 (omega arith), read r 64 (at + 1 + size l) h.2 (omega arith), q)) (omega arith) (con-in s (hasField n l r) at h)
-
-  pub binding-read : (b : Binding ℕ) (at : ℕ) → HoldsBinding s b at → depthBinding b ≤ 64 → Gives (readBinding (from s at)) b (at + sizeBinding b)
-  unfolding HoldsBinding sizeBinding depthBinding readBinding all
-  binding-read (x ≔ t) at h k =
-      let q : at + 1 + size t ≡ at + suc (size t) = omega arith in
-      by_first bindingKinds 24 (suc (size t)) x 0 0 at (x ≔ t) (omega arith) (seen s at h.0 h.2 tt) (rw (read t 64 (at + 1) h.1 k, q)) (omega arith)
-      (binding-in s (x ≔ t) at h)
-
   -- ══ One tree at most is held at a place ══
 
   same : {A : Type 0} {o : Option (A × List Rec)} {a b : A} {x y : List Rec} → o ≡ some (a, x) → o ≡ some (b, y) → a ≡ b
@@ -253,20 +203,6 @@ module _ (s : List ℕ) where
   only_two f l r l' r' at h i h' i' =
       let e = only l l' at h h' in
       ap₂ f e (only r r' (at + size l) i (subst (λ (t : Ty ℕ). Holds s r' (at + size t)) (sym e) i'))
-
-  -- also except for the length that the first record says
-  pub only-body : (t u : Ty ℕ) (at : ℕ) → Body s t at → Body s u at → t ≡ u
-  unfolding Body
-  only-body t (opened o) at h k = by-body s (λ x. x ≡ opened o) t at h k (ap opened (open-back o))
-  only-body t (basic b) at h k = by-body s (λ x. x ≡ basic b) t at h k (ap basic (basic-back b))
-  only-body t (dim p) at h k = by-body s (λ x. x ≡ dim p) t at h k.0 (λ q n i. ap dim (only-factors q p (at + 1) n i k.1))
-  only-body t (fn ps r) at h k = by-body s (λ x. x ≡ fn ps r) t at h k.0 (λ qs r' n i j.
-      let e = only-tys qs ps (at + 1) n i k.1 in
-      ap₂ fn e (only r' r (at + 1 + sizeTys qs) j (subst (λ (x : Tys ℕ). Holds s r (at + 1 + sizeTys x)) (sym e) k.2)))
-  only-body t (struct n as' fs) at h k = by-body s (λ x. x ≡ struct n as' fs) t at h k.0 (λ bs gs m c i j.
-      let e = only-tys bs as' (at + 1) m i k.1 in
-      ap₂ (struct n) e (only-fields gs fs (at + 1 + sizeTys bs) c j (subst (λ (x : Tys ℕ). HoldsFields s fs (at + 1 + sizeTys x)) (sym e) k.2)))
-  only-body t (list u) at h k = by-body s (λ x. x ≡ list u) t at h k.0 (λ v i. ap list (only v u (at + 1) i k.1))
 
   pub only-con-body : (c d : Con ℕ) (at : ℕ) → BodyCon s c at → BodyCon s d at → c ≡ d
   unfolding BodyCon

@@ -1,94 +1,26 @@
 -- The records from a place on, and the one that stands at a place.
 use Rattle.std.specs.Prelude.{◌≡◌, Bool, eqb, drop}
 use Rattle.std.proofs.Math.Path.{refl, sym, ap₂}
-use Rattle.std.proofs.Common.{ap, subst, ◌∙◌, add-zero}
+use Rattle.std.proofs.Common.{ap, subst, ◌∙◌}
 use Rattle.std.proofs.Math.Bool.{true, false}
-use mathlib.Core.List.{List, [], ◌∷◌, ◌++◌, cons≢nil}
+use mathlib.Core.List.{List, [], ◌∷◌, cons≢nil}
 use Prim.Native.Nat.{ℕ, suc, ◌+◌, ◌*◌, ◌/◌, ◌≤◌, ◌<◌}
 use Rattle.std.proofs.Math.Numerals.{add-one, add-two, add-three}
 use native.Mathlib.Omega.{arith}
 use borrow.Author.Tests.{eqb-true, ltb-true, ltb-false}
 use Rattle.std.proofs.Math.Dec.{ltb}
 use Rattle.std.proofs.Math.ListN.{length, get_or, length-drop}
-use Rattle.std.proofs.Math.Seq.{drop-cons, slice, slice-cons, slice_empty}
+use Rattle.std.proofs.Math.Seq.{drop-cons}
 use Rattle.rules.specs.Base.{all}
-use Rattle.rules.specs.Writing.{Rec, rec, head, kindIn, lengthIn, words}
-use Rattle.laws.specs.Heads.{head-back, kind-head, length-head}
+use Rattle.rules.specs.Writing.{Rec, rec, head, kindIn, lengthIn}
+use Rattle.laws.specs.Heads.{head-back, kind-head}
 use Rattle.laws.specs.Written.{Zeros}
-use Rattle.records.specs.Cut.{fit, cutRec, cut-head}
-use Rattle.records.specs.Views.{
-  either,
-  plain,
-  pick,
-  view_of,
-  recOpen,
-  recFactor,
-  recBound,
-  kindOfBasic,
-  bareOf,
-  lengthened,
-  recOf,
-  longOf,
-  recs,
-  from,
-  viewAt,
-  longAt,
-  boundTable,
-  schemeTable,
-  typeTable,
-  otherTable,
-}
+use Rattle.records.specs.Views.{either, plain, pick, view_of, recOf, longOf, recs, from, viewAt, longAt, boundTable, schemeTable, typeTable, otherTable}
 use Rattle.records.specs.declared.Open as names
 use Rattle.records.specs.declared.Atom as atoms
 use Rattle.records.specs.declared.Basic as basics
 use Rattle.records.specs.declared.View.{View}
 use Rattle.records.specs.declared.View.TheVariants as view
-
--- ══ The record that says a view ══
-
--- the kind of a record without length
-abbrev pub kind_of : Rec → ℕ
-kind_of (rec k a b c) = k
-
-open-kind : (o : names.Open) → kind_of (recOpen o) < 65_536
-open-kind (names.TheVariants.Var x) = omega arith
-open-kind (names.TheVariants.Quant i) = omega arith
-open-kind (names.TheVariants.Par x) = omega arith
-
-factor-kind : (f : atoms.Atom) (n d : ℕ) → kind_of (recFactor f n d) < 65_536
-factor-kind (atoms.TheVariants.Free (names.TheVariants.Var x)) n d = omega arith
-factor-kind (atoms.TheVariants.Free (names.TheVariants.Quant i)) n d = omega arith
-factor-kind (atoms.TheVariants.Free (names.TheVariants.Par x)) n d = omega arith
-factor-kind (atoms.TheVariants.Base x) n d = omega arith
-
-basic-kind : (b : basics.Basic) → kindOfBasic b < 65_536
-basic-kind basics.TheVariants.Boolean = omega arith
-basic-kind basics.TheVariants.Text = omega arith
-basic-kind basics.TheVariants.Datetime = omega arith
-
-bound-kind : (o : names.Open) → kind_of (recBound o) < 65_536
-bound-kind (names.TheVariants.Var x) = omega arith
-bound-kind (names.TheVariants.Quant i) = omega arith
-bound-kind (names.TheVariants.Par x) = omega arith
-
-pub bare-kind : (v : View) → kind_of (bareOf v) < 65_536
-bare-kind (view.Opened o) = open-kind o
-bare-kind (view.Basic b) = basic-kind b
-bare-kind (view.Dim n) = omega arith
-bare-kind (view.Function n) = omega arith
-bare-kind (view.Struct x n m) = omega arith
-bare-kind view.List = omega arith
-bare-kind (view.Field x) = omega arith
-bare-kind (view.Factor f n d) = factor-kind f n d
-bare-kind view.Equal = omega arith
-bare-kind view.IsDim = omega arith
-bare-kind view.IsScalar = omega arith
-bare-kind (view.HasField x) = omega arith
-bare-kind (view.Binding x) = omega arith
-bare-kind (view.Bound o) = bound-kind o
-bare-kind (view.Scheme n) = omega arith
-bare-kind view.Concrete = omega arith
-bare-kind view.Bad = omega arith
 
 -- a view other than Bad
 abbrev pub Says : View → Type 0
@@ -145,13 +77,6 @@ by-plain r (w ∷ ws) v f = go (eqb w 0) refl (by-plain r ws v)
 kept : (u : ℕ) {k : ℕ} → kindIn u ≡ k → head k (lengthIn u) ≡ u
 kept u e = ap (λ (k : ℕ). head k (lengthIn u)) (sym e) ∙ head-back u
 
--- and is cut in its length alone
-pub cut-view : (v : View) (n : ℕ) → cutRec (recOf v n) ≡ recOf v (fit n)
-cut-view v n = go (bareOf v) (bare-kind v)
-  where
-    go : (r : Rec) → kind_of r < 65_536 → cutRec (lengthened n r) ≡ lengthened (fit n) r
-    go (rec k a b c) h = cut-head k n a b c h
-
 -- a view that some record says: no bound is a parameter
 abbrev pub IsBound : names.Open → Type 0
 IsBound (names.TheVariants.Var x) = Unit {0}
@@ -176,14 +101,6 @@ Written (view.Bound o) = IsBound o
 Written (view.Scheme n) = Unit {0}
 Written view.Concrete = Unit {0}
 Written view.Bad = ⊥
-
--- the record of a view says its length
-pub rec-long : (v : View) (n : ℕ) → longOf (recOf v n) ≡ n
-unfolding longOf
-rec-long v n = go (bareOf v) (bare-kind v)
-  where
-    go : (r : Rec) → kind_of r < 65_536 → longOf (lengthened n r) ≡ n
-    go (rec k a b c) h = length-head k n h
 
 -- the record of a view says it
 pub rec-view : (v : View) (n : ℕ) → Written v → view_of (recOf v n) ≡ v
@@ -302,10 +219,6 @@ module _ (s : List ℕ) (at : ℕ) where
   unfolding longAt
   long-some h = rw (from_some h)
 
-  pub long-none : length s / 4 ≤ at → longAt s at ≡ 0
-  unfolding longAt
-  long-none h = rw (from-none h)
-
 module _ (s : List ℕ) where
   -- how many records there are from a place within on
   pub from-length : (at : ℕ) → at ≤ length s / 4 → at + length (from s at) ≡ length s / 4
@@ -347,40 +260,3 @@ module _ (s : List ℕ) where
           let f : recAt s at ∷ from s (at + 1) ≡ r ∷ rs = sym (from_some s at h) ∙ e in
           record { inside = h; this = cc; view = rw e; long = rw e; rest = cc }
       go false q = absurd (cons≢nil (sym e ∙ from-none s at (ltb-false at (length s / 4) q)))
-
-  -- what is left, past the first of them
-  pub past : (a b : List Rec) (at : ℕ) → from s at ≡ a ++ b → b ≡ from s (at + length a)
-  past [] b at e = rw (add-zero at) (sym e)
-  past (r ∷ a) b at e =
-      let q : at + 1 + length a ≡ at + suc (length a) = omega arith in
-      rw (← q) (past a b (at + 1) (sym (first at r (a ++ b) e).rest))
-
-  pub within : (a b : List Rec) (at : ℕ) → at ≤ length s / 4 → from s at ≡ a ++ b → at + length a ≤ length s / 4
-  within [] b at h e = omega arith
-  within (r ∷ a) b at h e =
-      let f = first at r (a ++ b) e in
-      omega (arith, f.inside, within a b (at + 1) (omega (arith, f.inside)) (sym f.rest))
-
-  -- their words
-  pub words-from : (a b : List Rec) (at : ℕ) → at ≤ length s / 4 → from s at ≡ a ++ b → slice (at * 4) ((at + length a) * 4) s ≡ words a
-  unfolding words
-  words-from [] b at h e = rw (add-zero at) (slice_empty (at * 4) s)
-  words-from (rec k x y z ∷ a) b at h e =
-      let i : ℕ = at * 4 in
-      let t : ℕ = (at + suc (length a)) * 4 in
-      let f = first at (rec k x y z) (a ++ b) e in
-      let w : t ≤ length s = omega (arith, within (rec k x y z ∷ a) b at h e) in
-      let q : (at + 1) * 4 ≡ suc (suc (suc (suc i))) = omega arith in
-      let u : at + 1 + length a ≡ at + suc (length a) = omega arith in
-      let ih : slice ((at + 1) * 4) ((at + 1 + length a) * 4) s ≡ words a = words-from a b (at + 1) (omega (arith, f.inside)) (sym f.rest) in
-      let ih' : slice (suc (suc (suc (suc i)))) t s ≡ words a = rw (q, u) at ih in
-      let g : rec (get_or s i 0) (get_or s (i + 1) 0) (get_or s (i + 2) 0) (get_or s (i + 3) 0) ≡ rec k x y z = f.this in
-      let e₁ : get_or s i 0 ≡ k = cc in
-      let e₂ : get_or s (suc i) 0 ≡ x = rw (← add-one i) (cc) in
-      let e₃ : get_or s (suc (suc i)) 0 ≡ y = rw (← add-two i) (cc) in
-      let e₄ : get_or s (suc (suc (suc i))) 0 ≡ z = rw (← add-three i) (cc) in
-      slice-cons i t s 0 (omega arith) w
-      ∙ ap₂ ◌∷◌ e₁ (slice-cons (suc i) t s 0 (omega arith) w
-      ∙ ap₂ ◌∷◌ e₂ (slice-cons (suc (suc i)) t s 0 (omega arith) w
-      ∙ ap₂ ◌∷◌ e₃ (slice-cons (suc (suc (suc i))) t s 0 (omega arith) w
-      ∙ ap₂ ◌∷◌ e₄ ih')))

@@ -291,7 +291,7 @@ pub fn scheme_good(names: NameTable, s: &[u32]) -> bool
 }
 
 // The order of factors: variables, quantified variables, parameters.
-#[tactic(auto, using(names::specs::Told::ordered), unfolding(rules::specs::Trees::orderOpen))]
+#[tactic(auto, using(names::proofs::Told::ordered), unfolding(rules::specs::Trees::orderOpen))]
 fn open_order(names: NameTable, a: Open, b: Open) -> Ordering
     ensures { toldOrder result ≡ orderOpen (numbers names.entry.pool.now names.entry.table.now) (openOf a) (openOf b) }
 {

@@ -9,7 +9,7 @@ use Rattle.rules.specs.Trees.{Product, Ty, Con, equal, isDim, is_scalar, hasFiel
 use Rattle.rules.specs.Trees as tree
 use Rattle.rules.specs.WellFormed.{goodTy, goodCon}
 use Rattle.rules.specs.Writing.{Rec, writeProduct, writeTy, writeCon, writeBinding}
-use Rattle.laws.specs.Size.{size-ty}
+use Rattle.laws.proofs.Size.{size-ty}
 use Rattle.records.specs.Cut.{cut}
 use Rattle.records.specs.Views.{recOf}
 use Rattle.records.specs.declared.View.{View}

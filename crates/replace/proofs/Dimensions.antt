@@ -12,22 +12,24 @@ use Rattle.rules.specs.Trees as tree
 use Rattle.rules.specs.Trees.{Ty, opened, dim, size, opens, openOfFactor}
 use Rattle.rules.specs.Values.{productValue}
 use Rattle.rules.specs.Writing.{writeProduct, writeTy}
-use Rattle.laws.specs.Contents.{any_append}
-use Rattle.laws.specs.GoodProducts.{good-product}
+use Rattle.laws.proofs.Contents.{any_append}
+use Rattle.laws.proofs.GoodProducts.{good-product}
 use Rattle.products.specs.Told.{Tree, given, answer, productOf}
-use Rattle.products.specs.Held.{Sound, well-sound, law}
+use Rattle.products.specs.Held.{Sound}
+use Rattle.products.proofs.Held.{well-sound, law}
 use Rattle.products.specs.declared.Product.{Product}
-use Rattle.records.specs.Cut.{short-product}
+use Rattle.records.proofs.Cut.{short-product}
 use Rattle.records.specs.declared.Open as names
 use Rattle.types.specs.declared.Shape.{Shape}
 use Rattle.types.specs.declared.Shape.TheVariants as shape
 use Rattle.types.specs.declared.Product as types
 use Rattle.types.specs.declared.writer.Writer.{Writer}
 use Rattle.types.specs.Shapes.{whole}
-use Rattle.types.specs.Written.{Writes, writes-none}
+use Rattle.types.specs.Written.{Writes}
+use Rattle.types.proofs.Written.{writes-none}
 use Rattle.replace.specs.Well as well
 use Rattle.replace.specs.Well.{GoodProduct, Whole, LooksGood}
-use Rattle.replace.specs.InProducts.{done, taken, told-stop, fine-told, product-kept}
+use Rattle.replace.proofs.InProducts.{done, taken, told-stop, fine-told, product-kept}
 use Rattle.replace.specs.Leaves.{Leaves, replaced}
 use Rattle.replace.proofs.Walks.{leaves, stops, behind, short-writes}
 

@@ -6,9 +6,11 @@ use Rattle.rules.specs.Base.{Got, got, refused, each, collect}
 use Rattle.rules.specs.declared.Refusal.{Refusal}
 use Rattle.rules.specs.Writing.{Rec}
 use Rattle.laws.specs.Lists.{Every}
-use Rattle.records.specs.Cut.{cut, cut-length}
+use Rattle.records.specs.Cut.{cut}
+use Rattle.records.proofs.Cut.{cut-length}
 use Rattle.types.specs.declared.writer.Writer.{Writer}
-use Rattle.types.specs.Written.{Writes, writes-none}
+use Rattle.types.specs.Written.{Writes}
+use Rattle.types.proofs.Written.{writes-none}
 use Rattle.replace.specs.Leaves.{Leaves}
 use Rattle.replace.proofs.Walks.{on, stopped, leaves, stops, after}
 

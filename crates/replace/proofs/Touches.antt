@@ -8,13 +8,13 @@ use Rattle.rules.specs.Base.{any, is_none}
 use Rattle.rules.specs.Refusals.{toldOptionBy}
 use Rattle.rules.specs.Replacing.{Look}
 use Rattle.rules.specs.Trees.{Open, Ty, Con, opensCon, sizeCon}
-use Rattle.laws.specs.Contents.{any_append}
-use Rattle.laws.specs.Lists.{true≢false}
-use Rattle.laws.specs.Untouched.{Unbound}
+use Rattle.laws.proofs.Contents.{any_append}
+use Rattle.laws.proofs.Lists.{true≢false}
+use Rattle.laws.proofs.Untouched.{Unbound}
 use Rattle.records.specs.Views.{viewAt}
 use Rattle.records.specs.Holds.{HoldsCon}
 use Rattle.queries.specs.Scans.{opensView, opensFrom, opensIn}
-use Rattle.queries.specs.ScanLaws.{opens-step, con-opens}
+use Rattle.queries.proofs.ScanLaws.{opens-step, con-opens}
 use Rattle.replace.specs.Leaves.{replaced}
 
 module _ (look : Look ℕ) where

@@ -17,7 +17,7 @@ use Rattle.records.specs.declared.View.TheVariants as view
 use Rattle.queries.specs.Scans.{opensView}
 use Rattle.replace.specs.Leaves.{replaced}
 use Rattle.replace.specs.Places.{Called, number_of, Tabled, unsaid, word_of}
-use Rattle.replace.specs.Substitutions.{none-said}
+use Rattle.replace.proofs.Substitutions.{none-said}
 
 second : Rec → ℕ
 second (rec k a b c) = a

@@ -12,17 +12,19 @@ use Rattle.rules.specs.Trees.{Ty, opened, basic, fn, struct, list, Tys, nil, con
 use Rattle.rules.specs.Trees as tree
 use Rattle.rules.specs.WellFormed.{goodTy, goodTys, goodFields, rising, fieldNames}
 use Rattle.rules.specs.Writing.{Rec, writeTy, writeTys, writeFields}
-use Rattle.laws.specs.Size.{size-ty, size-tys, size-fields}
-use Rattle.laws.specs.Value.{Gives, gives, next, its_own}
+use Rattle.laws.proofs.Size.{size-ty, size-tys, size-fields}
+use Rattle.laws.proofs.Value.{Gives, gives, next, its_own}
 use Rattle.records.specs.Holds.{openOf}
 use Rattle.records.specs.declared.Open as names
-use Rattle.records.specs.Cut.{fit, fits, cutRec, cut, cut-append, cut-length, short-ty}
-use Rattle.records.specs.Places.{cut-view}
+use Rattle.records.specs.Cut.{fit, cutRec, cut}
+use Rattle.records.proofs.Cut.{fits, cut-append, cut-length, short-ty}
+use Rattle.records.proofs.Places.{cut-view}
 use Rattle.records.specs.Views.{recOf}
 use Rattle.records.specs.declared.View.{View}
 use Rattle.records.specs.declared.View.TheVariants as view
 use Rattle.types.specs.declared.writer.Writer.{Writer}
-use Rattle.types.specs.Written.{Writes, Reserves, Begins, writes-none, writes-then, part-writes}
+use Rattle.types.specs.Written.{Writes, Reserves, Begins}
+use Rattle.types.proofs.Written.{writes-none, writes-then, part-writes}
 use Rattle.replace.specs.Well as well
 use Rattle.replace.specs.Well.{GoodProduct, GoodTy, GoodTys, GoodFields}
 use Rattle.replace.specs.Leaves.{becomes, LeavesOf, Leaves}

@@ -3,8 +3,8 @@ use Rattle.std.specs.Prelude.{◌≡◌, List, ◌++◌, ℕ, ◌+◌, ◌*◌, 
 use Rattle.std.proofs.Common.{sym, subst}
 use Rattle.std.proofs.lemmas.List.Edits.{sets}
 use Rattle.rules.specs.Writing.{Rec, words}
-use Rattle.types.specs.Written as types
-pub use Rattle.laws.specs.Size.{words_append}
+use Rattle.types.proofs.Written as types
+pub use Rattle.laws.proofs.Size.{words_append}
 
 -- n records, and then others
 pub writes : (d d₁ d₂ : List ℕ) (a b : List Rec) (n out : ℕ) → length a ≡ n → d₁ ≡ sets d (out * 4) (words a)

@@ -5,7 +5,7 @@ use Rattle.rules.specs.Base.{Got, got, refused, bounded, is_none}
 use Rattle.rules.specs.Refusals.{number_of}
 use Rattle.rules.specs.declared.Refusal.{Refusal}
 use Rattle.rules.specs.Replacing.{Look, replaceProduct, replaceTy, replaceTys, replaceFields, replaceCon, replaceBinding}
-use Rattle.rules.specs.Trees.{Open, Product, Ty, opened, Tys, Fields, Con, Binding, sizeTys, sizeFields}
+use Rattle.rules.specs.Trees.{Open, Product, Ty, opened, Tys, Fields, Con, Binding}
 use Rattle.rules.specs.Writing.{Rec, writeTys, writeFields}
 use Rattle.records.specs.Cut.{cut}
 use Rattle.types.specs.declared.writer.Writer.{Writer}
@@ -63,8 +63,3 @@ module _ (by : Substitution) where
 abbrev pub GoodParts : List ℕ → List ℕ → Parts → Type 0
 GoodParts pool table (parts.Types ts) = GoodTys pool table ts.trees.0
 GoodParts pool table (parts.Fields fs) = GoodFields pool table fs.trees.0
-
--- how many records they have
-abbrev pub sizeParts : Parts → ℕ
-sizeParts (parts.Types ts) = sizeTys ts.trees.0
-sizeParts (parts.Fields fs) = sizeFields fs.trees.0

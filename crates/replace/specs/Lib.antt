@@ -5,7 +5,3 @@ pub mod Opened
 pub mod Well
 pub mod InProducts
 pub mod Leaves
-pub mod Came
-pub mod Given
-pub mod Written
-pub mod Kept

@@ -9,7 +9,7 @@ use Rattle.rules.specs.Replacing.{Look}
 use Rattle.rules.specs.Trees.{Open, Ty, size}
 use Rattle.records.specs.Holds.{Holds}
 use Rattle.records.specs.Parsed.{only}
-use Rattle.types.specs.Once.{ATree, ℕ-set, type-once}
+use Rattle.types.specs.Once.{ℕ-set, type-once}
 use Rattle.replace.specs.Places.{word_of, BoundAt, SaysAt}
 use Rattle.replace.specs.Well.{LooksGood, Lent}
 
@@ -29,20 +29,6 @@ module _ (v : List ℕ) where
   says-one w none (some u) h k = absurd (omega (arith, h, k.word))
   says-one w (some t) none h k = absurd (omega (arith, h.word, k))
   says-one w (some t) (some u) h k = let e : k.at ≡ h.at = omega (arith, h.word, k.word) in ap some (only v t u h.at h.held (subst (Holds v u) e k.held))
-
-  module _ {w : ℕ} where
-    -- a name of which the table says nothing, and one whose type stands at the place
-    pub none-said : (m : Option (Ty ℕ)) → SaysAt v w m → w ≡ 0 → none ≡ m
-    none-said none h e = refl
-    none-said (some t) h e = absurd (omega (arith, h.word, e))
-
-    pub said-at : (m : Option (Ty ℕ)) → SaysAt v w m → (w ≡ 0 → ⊥) → ATree v (w - 1)
-    said-at none h n = absurd (n h)
-    said-at (some t) h n = let e : h.at ≡ w - 1 = omega (arith, h.word) in (t, subst (Holds v t) e h.held)
-
-    pub some-said : (m : Option (Ty ℕ)) → SaysAt v w m → (w ≡ 0 → ⊥) → (t : ATree v (w - 1)) → some t.0 ≡ m
-    some-said none h n t = absurd (n h)
-    some-said (some u) h n t = let e : h.at ≡ w - 1 = omega (arith, h.word) in ap some (only v t.0 u (w - 1) t.1 (subst (Holds v u) e h.held))
 
 module _ (pool table places v : List ℕ) where
   few-once : (look : Look ℕ) → IsProp ((o : Open ℕ) (t : Ty ℕ) → look o ≡ some t → size t ≤ 2048)
@@ -70,6 +56,3 @@ module _ (pool table places v : List ℕ) where
 
   pub one-look : IsProp ALook
   one-look p q = Σ_prop_path lent-once (fun_ext (λ o. says-one v (word_of places o) (p.0 o) (q.0 o) (p.1.tabled.says o) (q.1.tabled.says o)))
-
-  pub same-look : (p q : ALook) (o : Open ℕ) → p.0 o ≡ q.0 o
-  same-look p q o = ap (λ (l : ALook). l.0 o) (one-look p q)

@@ -4,21 +4,17 @@ use Rattle.std.proofs.Math.Option.{some}
 use Rattle.rules.specs.Base.{all}
 use Rattle.rules.specs.Names.{table_of, numbersOf, is_held}
 use Rattle.rules.specs.Replacing.{Look}
-use Rattle.rules.specs.Trees.{Open, Names, Factor, Ty, Tys, Fields, Con, Binding}
+use Rattle.rules.specs.Trees.{Open, Names, Ty, Tys, Fields, Con, Binding}
 use Rattle.rules.specs.Values.{productValue}
-use Rattle.rules.specs.WellFormed.{goodFactor, goodProduct, goodTy, goodTys, goodFields, goodCon, goodBinding}
+use Rattle.rules.specs.WellFormed.{goodProduct, goodTy, goodTys, goodFields, goodCon, goodBinding}
 use Rattle.products.specs.Told.{Tree, given}
 use Rattle.products.specs.declared.Product.{Product}
-use Rattle.records.specs.Holds.{Holds}
 use Rattle.types.specs.Binds.{IsBinds}
 use Rattle.replace.specs.Places.{Tabled}
 
 module _ (pool table : List ℕ) where
   abbrev pub names : Names ℕ
   names = numbersOf (table_of pool table)
-
-  abbrev pub GoodFactor : Factor ℕ → Type 0
-  GoodFactor f = goodFactor names (is_held (table_of pool table)) 4_294_967_296 f ≡ true
 
   abbrev pub GoodProduct : Tree → Type 0
   GoodProduct p = goodProduct names (is_held (table_of pool table)) 4_294_967_296 p ≡ true
@@ -42,11 +38,6 @@ module _ (pool table : List ℕ) where
   pub record Whole (p : Product) (t : Tree) : Type 0 where
     pub is : given p ≡ productValue t
     pub good : GoodProduct t
-
-  -- a well formed type that a place holds
-  pub record HeldType (s : List ℕ) (t : Ty ℕ) (at : ℕ) : Type 0 where
-    pub held : Holds s t at
-    pub good : GoodTy t
 
   -- a run of well formed bindings, of at most 2,048 records, in a list that is not too long
   pub record Listed (v : List ℕ) (b e : ℕ) (bs : List (Binding ℕ)) : Type 0 where

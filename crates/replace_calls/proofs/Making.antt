@@ -13,25 +13,28 @@ use Rattle.rules.specs.Trees.{Open, Ty, Con, Binding, size, depth, sizeCon, dept
 use Rattle.rules.specs.WellFormed.{goodTy, goodBinding}
 use Rattle.rules.specs.Writing.{Rec, words, writeTy, writeCon}
 use Rattle.rules.specs.declared.Refusal.{Refusal}
-use Rattle.laws.specs.KeepsGood as laws
-use Rattle.laws.specs.Lists.{clash, Every, every-all, is_all}
-use Rattle.laws.specs.Size.{size-ty, set-length}
-use Rattle.laws.specs.Sized.{sized_same, sized-small}
-use Rattle.laws.specs.Weaker.{ty-weaker}
-use Rattle.products.specs.Held.{law}
-use Rattle.records.specs.Buffers.{stored, words-length}
-use Rattle.records.specs.Cut.{cut, cut-length, short-all, short-con, short-ty}
+use Rattle.laws.proofs.KeepsGood as laws
+use Rattle.laws.specs.Lists.{Every}
+use Rattle.laws.proofs.Lists.{clash, every-all, is_all}
+use Rattle.laws.proofs.Size.{size-ty, set-length}
+use Rattle.laws.proofs.Sized.{sized_same, sized-small}
+use Rattle.laws.proofs.Weaker.{ty-weaker}
+use Rattle.products.proofs.Held.{law}
+use Rattle.laws.proofs.Size.{words-length}
+use Rattle.records.proofs.Buffers.{stored}
+use Rattle.records.specs.Cut.{cut}
+use Rattle.records.proofs.Cut.{cut-length, short-all, short-con, short-ty}
 use Rattle.records.specs.Good as records
 use Rattle.records.specs.Good.{numbers, holding}
-use Rattle.records.specs.Held.{held}
+use Rattle.records.proofs.Held.{held}
 use Rattle.records.specs.Views.{from}
-use Rattle.replace.specs.Came.{Came, stopped}
-use Rattle.replace.specs.Kept.{cons-kept, cons-weaker, binds-weaker}
+use Rattle.replace.proofs.Came.{Came, stopped}
+use Rattle.replace.proofs.Kept.{cons-kept, cons-weaker, binds-weaker}
 use Rattle.replace.specs.Leaves.{Leaves}
-use Rattle.replace.specs.Runs.{looked-good}
+use Rattle.replace.proofs.Runs.{looked-good}
 use Rattle.replace.specs.Substitutions.{ALook, one-look}
 use Rattle.replace.specs.Well.{GoodCon, GoodTy, Lent, Listed}
-use Rattle.replace.specs.Written.{ty-fits, written-cons}
+use Rattle.replace.proofs.Written.{ty-fits, written-cons}
 use Rattle.types.specs.Fine.{FineBindings}
 use Rattle.types.specs.declared.Bindings.{Bindings}
 use Rattle.types.specs.declared.writer.Writer.{Writer}

@@ -4,8 +4,8 @@ use Rattle.std.proofs.Common.{sym, ap, subst, ◌∙◌, arith, leb-true, le-leb
 use Rattle.std.proofs.Math.Decide.{dec_le}
 use Rattle.rules.specs.Base.{got, refused, all, sum_of, max_of}
 use Rattle.rules.specs.Trees.{Ty, Con, size, depth, sizeCon, depthCon}
-use Rattle.laws.specs.Lists.{true≢false}
-use Rattle.laws.specs.Sized.{sized-kept, sized-long, sized-deep}
+use Rattle.laws.proofs.Lists.{true≢false}
+use Rattle.laws.proofs.Sized.{sized-kept, sized-long, sized-deep}
 use Rattle.records.specs.Good.{Ends, GoodTy, goodCon}
 use Rattle.records.specs.Holds.{Holds}
 use Rattle.records.specs.Parsed.{only}

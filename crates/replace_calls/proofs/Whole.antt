@@ -7,18 +7,19 @@ use Rattle.rules.specs.Calls.{typeGiven, setGiven, bindingsGiven, opensBinding, 
 use Rattle.rules.specs.Names.{table_of}
 use Rattle.rules.specs.Writing.{Rec, words}
 use Rattle.rules.specs.declared.Refusal.{Refusal}
-use Rattle.laws.specs.KnownNames.{every_append, ty-known}
+use Rattle.laws.proofs.Lists.{every_append}
+use Rattle.laws.proofs.KnownNames.{ty-known}
 use Rattle.laws.specs.NameTable.{good-laid}
 use Rattle.names.specs.declared.tables.NameTable.{NameTable}
 use Rattle.records.specs.Found.{Words32}
 use Rattle.records.specs.Good.{numbers, holding}
-use Rattle.records.specs.Whole.{type-is, set_is, bindings-is}
-use Rattle.queries.specs.GoodOpens.{names-small}
+use Rattle.records.proofs.Whole.{type-is, set_is, bindings-is}
+use Rattle.queries.proofs.GoodOpens.{names-small}
 use Rattle.queries.specs.Marks.{Small}
-use Rattle.queries.specs.Runs.{set-opens, set-small, bindings-opens, bindings-small}
+use Rattle.queries.proofs.Runs.{set-opens, set-small, bindings-opens, bindings-small}
 use Rattle.queries.specs.Scans.{opensIn}
-use Rattle.queries.specs.ScanLaws.{type-opens}
-use Rattle.records_buffers.specs.Handed.{as_written, unwritten}
+use Rattle.queries.proofs.ScanLaws.{type-opens}
+use Rattle.records_buffers.proofs.Handed.{as_written, unwritten}
 use Rattle.records_buffers.specs.Told.{Made, handed}
 
 pub as-made : {m m' : Got (List Rec)} {w : List ℕ} {r : Result ℕ Refusal} → m ≡ m' → Made m' w r → Made m w r

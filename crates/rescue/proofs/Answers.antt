@@ -10,11 +10,11 @@ use Rattle.rules.specs.Refusals.{number_of}
 use Rattle.rules.specs.Writing.{words}
 use Rattle.rules.specs.Calls.{tableKept, resultAfter}
 use Rattle.rules.specs.declared.Refusal.{Refusal}
-use Rattle.laws.specs.Answers.{over-is}
-use Rattle.laws.specs.Checks.{need-passed, first-passed, next-passed}
+use Rattle.laws.proofs.Answers.{over-is}
+use Rattle.laws.proofs.Checks.{need-passed, first-passed, next-passed}
 use Rattle.laws.specs.Lists.{and_left, and_right}
 use Rattle.laws.specs.NameTable.{Good}
-use Rattle.laws.specs.Size.{words-length}
+use Rattle.laws.proofs.Size.{words-length}
 use Rattle.rules.specs.Rescue.{Piece, words_in, piecesIn, keptIn, placesIn, rescueGiven, rescueCall}
 use Rattle.rescue.specs.Told.{rescuedAs, keptBytes, Walked, Noted, Took}
 use Rattle.rescue.proofs.Steps.{bytes-length, torn-behind, torn-few}

@@ -3,7 +3,7 @@ use Rattle.std.specs.Prelude.{◌≡◌, ℕ}
 use Rattle.std.proofs.Common.{sym, ◌∙◌}
 use Rattle.std.proofs.Math.Path.{ap}
 use Rattle.rules.specs.Numbers.{refusalIn, number}
-use Rattle.laws.specs.Numbers.{toldBy-injective, answer-in-by}
+use Rattle.laws.proofs.Numbers.{toldBy-injective, answer-in-by}
 use Rattle.rules.specs.Rescue.{Rescued}
 use Rattle.rescue.specs.declared.Counts.{Counts}
 use Rattle.rescue.specs.Theorems.{RescueDetermined, RescueNumbered}

@@ -11,7 +11,7 @@ use Rattle.rules.specs.Solving.{solve}
 use Rattle.rules.specs.Writing.{words}
 use Rattle.rules.specs.Calls.{over, resultAfter, tableKept, shortLists, aloneGiven, apart, setGiven, setCall, solvedSet}
 use Rattle.laws.specs.NameTable.{Good}
-use Rattle.laws.specs.Size.{words-length}
+use Rattle.laws.proofs.Size.{words-length}
 use Rattle.rules.specs.Rescue.{words_in, piecesIn, keptIn, placesIn, rescueGiven, rescueCall}
 use Rattle.rescue.specs.Told.{keptBytes}
 use Rattle.rescue.specs.Told.{Bytes}

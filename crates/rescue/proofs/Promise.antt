@@ -14,18 +14,20 @@ use Rattle.rules.specs.WellFormed.{goodTy, goodCon}
 use Rattle.rules.specs.Writing.{Rec, rec, words, writeCon}
 use Rattle.rules.specs.Reading.{readCon}
 use Rattle.rules.specs.Calls.{listGiven, setGiven}
-use Rattle.laws.specs.Lists.{Every, every-left, every-right, every_append, and_left, and_right, and_both}
-use Rattle.laws.specs.Reading.{good-fits}
-use Rattle.laws.specs.ReadLists.{FitsCon, Writable, con-read, read_set}
-use Rattle.laws.specs.ReadLists as lists
-use Rattle.laws.specs.Size.{size-con, words_append, words-length}
+use Rattle.laws.specs.Lists.{Every, and_left, and_right}
+use Rattle.laws.proofs.Lists.{every-left, every-right, every_append, and_both}
+use Rattle.laws.proofs.Reading.{good-fits}
+use Rattle.laws.specs.ReadLists.{FitsCon, Writable}
+use Rattle.laws.proofs.ReadLists.{con-read, read_set}
+use Rattle.laws.proofs.ReadLists as lists
+use Rattle.laws.proofs.Size.{size-con, words_append, words-length}
 use Rattle.laws.specs.Written.{Small}
-use Rattle.records.specs.Given.{absurd-some, con-reader}
+use Rattle.records.proofs.Given.{absurd-some, con-reader}
 use Rattle.records.specs.Good.{Chain, GoodCon}
-use Rattle.records.specs.Moves.{con-moves}
+use Rattle.records.proofs.Moves.{con-moves}
 use Rattle.records.specs.Places.{recAt, recs-length, from-none, from_some}
 use Rattle.records.specs.Views.{recs, from}
-use Rattle.records.specs.Whole.{set_is}
+use Rattle.records.proofs.Whole.{set_is}
 use Rattle.rules.specs.Rescue.{words_in, recordsIn, bytes_of, Piece, sound, lost, startsHere, pieces, piecesIn, keptIn, skippedFrom, tornIn, placesIn}
 use Rattle.rescue.specs.Told.{keptBytes, Bytes, recordsOf, consIn}
 use Rattle.rescue.proofs.Steps.{words-in-length, bytes-length, records-are, pieces-sound, pieces_end}

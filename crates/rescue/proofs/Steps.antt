@@ -14,14 +14,15 @@ use Rattle.rules.specs.Trees.{Con, sizeCon}
 use Rattle.rules.specs.Names.{table_of}
 use Rattle.rules.specs.Writing.{Rec, rec, words, writeCon}
 use Rattle.rules.specs.Reading.{readCon}
-use Rattle.laws.specs.Size.{size-con, words_append, words-length}
+use Rattle.laws.proofs.Size.{size-con, words_append, words-length}
 use Rattle.records.specs.Found.{Words32}
-use Rattle.records.specs.Given.{con-reader}
+use Rattle.records.proofs.Given.{con-reader}
 use Rattle.records.specs.Good.{goodCon, GoodCon}
-use Rattle.records.specs.Held.{con-written}
-use Rattle.records.specs.Moves.{con-moves}
-use Rattle.records.specs.Places.{recs-length, recAt, from-none, from_some, words-from}
-use Rattle.records.specs.Stores.{sets-append}
+use Rattle.records.proofs.Held.{con-written}
+use Rattle.records.proofs.Moves.{con-moves}
+use Rattle.records.specs.Places.{recs-length, recAt, from-none, from_some}
+use Rattle.records.proofs.Places.{words-from}
+use Rattle.records.proofs.Stores.{sets-append}
 use Rattle.records.specs.Views.{recs, from}
 use Rattle.rules.specs.Rescue.{
   wordFrom,

@@ -10,7 +10,7 @@ use Rattle.rules.specs.declared.Refusal.{Refusal}
 use Rattle.names.specs.Told.{unit_of}
 use Rattle.names.specs.declared.tables.NameTable.{NameTable}
 use Rattle.types.proofs.Tested.{over, tested}
-use Rattle.records_buffers.specs.Handed.{made-refused}
+use Rattle.records_buffers.proofs.Handed.{made-refused}
 use Rattle.records_buffers.specs.Told.{Made, handed}
 use Rattle.schemes.specs.Entry.{called_over}
 

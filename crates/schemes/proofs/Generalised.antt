@@ -15,9 +15,10 @@ use Rattle.rules.specs.Schemes.{scheme, concrete, schemeLimited, renamed, rename
 use Rattle.rules.specs.Trees as tree
 use Rattle.rules.specs.Trees.{Names, Ty, opens}
 use Rattle.rules.specs.Writing.{word_of, writeScheme}
-use Rattle.laws.specs.Lists.{All, in_head, is-yes, is-no}
+use Rattle.laws.specs.Lists.{All, in_head, is-yes}
+use Rattle.laws.proofs.Lists.{is-no}
 use Rattle.laws.specs.NameTable.{Good}
-use Rattle.products.specs.Held.{law}
+use Rattle.products.proofs.Held.{law}
 use Rattle.schemes_renaming.specs.Places.{first_equal, all_of}
 use Rattle.schemes_renaming.proofs.InTurn.{quantify-once}
 use Rattle.schemes_handed.specs.Bounds.{Rename, orAll, allBounds}

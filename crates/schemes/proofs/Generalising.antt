@@ -32,29 +32,32 @@ use Rattle.rules.specs.Trees as tree
 use Rattle.rules.specs.Trees.{Ty, opens, size}
 use Rattle.rules.specs.WellFormed as rules
 use Rattle.rules.specs.Writing.{Rec, rec, head, words, word_of, writeTy, writeBound, writeScheme}
-use Rattle.laws.specs.KnownNames.{ty-known}
-use Rattle.laws.specs.Lists.{All, every-all}
+use Rattle.laws.proofs.KnownNames.{ty-known}
+use Rattle.laws.specs.Lists.{All}
+use Rattle.laws.proofs.Lists.{every-all}
 use Rattle.laws.specs.NameTable.{Good}
-use Rattle.laws.specs.ReadLists.{Every}
-use Rattle.laws.specs.Size.{size-ty}
-use Rattle.laws.specs.SortedNames.{sort-every}
+use Rattle.laws.specs.Lists.{Every}
+use Rattle.laws.proofs.Size.{size-ty}
+use Rattle.laws.proofs.SortedNames.{sort-every}
 use Rattle.records.specs.ByView.{open-back}
 use Rattle.records.specs.Found.{Words32}
-use Rattle.records.specs.Given.{list-is}
+use Rattle.records.proofs.Given.{list-is}
 use Rattle.records.specs.Good.{Chain, numbers, holding, goodOpen, GoodBound, GoodScheme}
-use Rattle.records.specs.Held.{written}
+use Rattle.records.proofs.Held.{written}
 use Rattle.records.specs.Holds.{Holds, viewOpen}
-use Rattle.records.specs.Places.{seen, words-from}
-use Rattle.records.specs.Schemes.{bound-reader, scheme-is}
+use Rattle.records.specs.Places.{seen}
+use Rattle.records.proofs.Places.{words-from}
+use Rattle.records.specs.Schemes.{bound-reader}
+use Rattle.records.proofs.Schemes.{scheme-is}
 use Rattle.records.specs.Views.{from}
-use Rattle.queries.specs.GoodOpens.{names-held}
+use Rattle.queries.proofs.GoodOpens.{names-held}
 use Rattle.queries.specs.Marks.{Filled}
-use Rattle.queries.specs.ScanLaws.{type-opens}
+use Rattle.queries.proofs.ScanLaws.{type-opens}
 use Rattle.queries.specs.Scans.{choose, opensIn}
 use Rattle.queries.specs.declared.Kind.TheVariants.{Both}
-use Rattle.records_buffers.specs.Handed.{made-records, as_written, unwritten}
+use Rattle.records_buffers.proofs.Handed.{made-records, as_written, unwritten}
 use Rattle.records_buffers.specs.Told.{Made, handed}
-use Rattle.schemes_handed.specs.Bounds.{bound-rec}
+use Rattle.schemes_handed.proofs.OnBounds.{bound-rec}
 use Rattle.schemes_quantify.specs.Ready.{quantifiedBy}
 use Rattle.schemes.specs.Generalising.{Ready, generalisedFrom}
 use Rattle.schemes.proofs.Called.{handed-on}

@@ -18,17 +18,17 @@ use Rattle.rules.specs.Trees as tree
 use Rattle.rules.specs.Trees.{Names, Ty, size}
 use Rattle.rules.specs.Writing.{Rec, writeTy, writeBound}
 use Rattle.laws.specs.Lists.{All}
-use Rattle.laws.specs.NameTable.{held-is}
+use Rattle.laws.proofs.NameTable.{held-is}
 use Rattle.names.specs.declared.tables.NameTable.{NameTable}
-use Rattle.laws.specs.Weaker.{ty-weaker}
-use Rattle.products.specs.Held.{law}
+use Rattle.laws.proofs.Weaker.{ty-weaker}
+use Rattle.products.proofs.Held.{law}
 use Rattle.schemes_renaming.proofs.Own.{own}
 use Rattle.schemes_renaming.proofs.PutBack.{Back, put-back, put-back-twice}
 use Rattle.records.specs.Found.{Words32}
 use Rattle.records.specs.Good.{GoodTy, GoodScheme}
-use Rattle.records.specs.Schemes.{scheme-is}
+use Rattle.records.proofs.Schemes.{scheme-is}
 use Rattle.schemes_handed.specs.Bounds.{Rename, allBounds, BoundsAt}
-use Rattle.records_buffers.specs.Handed.{as_written, unwritten}
+use Rattle.records_buffers.proofs.Handed.{as_written, unwritten}
 use Rattle.records_buffers.specs.Told.{Made, handed}
 use Rattle.schemes_handed.proofs.Tested.{chain-bounds}
 use Rattle.schemes_handed.specs.declared.Handed.{Handed}

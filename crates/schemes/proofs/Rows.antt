@@ -8,9 +8,9 @@ use Rattle.rules.specs.Calls.{shortLists, shortNumbers}
 use Rattle.rules.specs.Refusals.{number_of}
 use Rattle.rules.specs.Writing.{Rec}
 use Rattle.rules.specs.declared.Refusal.{Refusal}
-use Rattle.laws.specs.Checks.{need-passed, first-passed, next-passed}
+use Rattle.laws.proofs.Checks.{need-passed, first-passed, next-passed}
 use Rattle.laws.specs.Lists.{and_left}
-use Rattle.records_buffers.specs.Handed.{made-refused}
+use Rattle.records_buffers.proofs.Handed.{made-refused}
 use Rattle.records_buffers.specs.Told.{Made}
 use Rattle.schemes.specs.Entry.{short}
 use Rattle.schemes.proofs.Called.{made-as}

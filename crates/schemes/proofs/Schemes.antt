@@ -12,18 +12,18 @@ use Rattle.rules.specs.Names.{Table, numbersOf}
 use Rattle.rules.specs.Schemes.{Scheme, concrete, scheme}
 use Rattle.rules.specs.Trees as tree
 use Rattle.rules.specs.Trees.{Ty, opens, size}
-use Rattle.laws.specs.Checks.{need-passed}
-use Rattle.laws.specs.KnownNames.{ty-known}
+use Rattle.laws.proofs.Checks.{need-passed}
+use Rattle.laws.proofs.KnownNames.{ty-known}
 use Rattle.laws.specs.NameTable.{good-laid}
 use Rattle.names.specs.declared.tables.NameTable.{NameTable}
 use Rattle.records.specs.Found.{Words32}
 use Rattle.records.specs.Good.{Chain, numbers, holding, GoodBound, GoodScheme}
 use Rattle.records.specs.Places.{seen-in}
-use Rattle.records.specs.Schemes.{scheme-is}
-use Rattle.records.specs.Whole.{type-is}
-use Rattle.queries.specs.GoodOpens.{names-small}
+use Rattle.records.proofs.Schemes.{scheme-is}
+use Rattle.records.proofs.Whole.{type-is}
+use Rattle.queries.proofs.GoodOpens.{names-small}
 use Rattle.queries.specs.Marks.{Small}
-use Rattle.queries.specs.ScanLaws.{opens-none, opens-step, opens-join, ty-opens, type-opens, chain-opens}
+use Rattle.queries.proofs.ScanLaws.{opens-none, opens-step, opens-join, ty-opens, type-opens, chain-opens}
 use Rattle.queries.specs.Scans.{opensIn}
 use Rattle.types.proofs.Tested.{over}
 use Rattle.schemes.specs.Entry.{short}

@@ -15,18 +15,20 @@ use Rattle.rules.specs.Trees.{Names, Ty, orderAtom, opens}
 use Rattle.rules.specs.Contents.{unmixed}
 use Rattle.rules.specs.Writing.{Rec, writeScheme}
 use Rattle.rules.specs.declared.Refusal.{Refusal}
-use Rattle.laws.specs.GoodProducts.{goodAtom, atom-tells}
-use Rattle.laws.specs.NameTable.{Good, held-is, held_tells}
+use Rattle.laws.specs.GoodProducts.{goodAtom}
+use Rattle.laws.proofs.GoodProducts.{atom-tells}
+use Rattle.laws.specs.NameTable.{Good, held_tells}
+use Rattle.laws.proofs.NameTable.{held-is}
 use Rattle.laws.specs.Order.{Tells}
-use Rattle.laws.specs.Weaker.{ty-weaker}
+use Rattle.laws.proofs.Weaker.{ty-weaker}
 use Rattle.names.specs.declared.tables.NameTable.{NameTable}
-use Rattle.products.specs.Held.{law}
+use Rattle.products.proofs.Held.{law}
 use Rattle.schemes_renaming.specs.Places.{all_of}
 use Rattle.schemes_renaming.proofs.InTurn.{quantify-once}
 use Rattle.records.specs.Found.{Words32}
 use Rattle.records.specs.Good.{goodTy}
-use Rattle.records.specs.Whole.{type-is}
-use Rattle.records_buffers.specs.Handed.{as_written, unwritten}
+use Rattle.records.proofs.Whole.{type-is}
+use Rattle.records_buffers.proofs.Handed.{as_written, unwritten}
 use Rattle.records_buffers.specs.Told.{Made, handed}
 use Rattle.schemes_handed.specs.Bounds.{Rename, allBounds}
 use Rattle.schemes_handed.specs.declared.Handed.{Handed}

@@ -6,8 +6,10 @@ use Rattle.rules.specs.Base.{Got, got, refused, ◌>>◌, need, all}
 use Rattle.rules.specs.Calls.{shortNumbers, numbersGiven}
 use Rattle.rules.specs.Names.{table_of, is_held}
 use mathlib.Core.List.{Memᴰ}
-use Rattle.laws.specs.Lists.{All, all-is, in_head, not-true, not-false}
-use Rattle.laws.specs.NameTable.{Good, good-laid, held-is}
+use Rattle.std.proofs.lemmas.Bool.{not-true, not-false}
+use Rattle.laws.specs.Lists.{All, all-is, in_head}
+use Rattle.laws.specs.NameTable.{Good, good-laid}
+use Rattle.laws.proofs.NameTable.{held-is}
 
 module _ (pool table xs : List ℕ) where
   abbrev pub under : ℕ → Bool

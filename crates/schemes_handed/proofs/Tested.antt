@@ -10,10 +10,12 @@ use Rattle.rules.specs.Trees.{Ty, Open, size}
 use Rattle.laws.specs.NameTable.{Good}
 use Rattle.names.specs.declared.tables.NameTable.{NameTable}
 use Rattle.records.specs.Found.{Words32}
-use Rattle.records.specs.Given.{list-yes, list-told}
+use Rattle.records.specs.Given.{list-yes}
+use Rattle.records.proofs.Given.{list-told}
 use Rattle.records.specs.Good.{Chain, Chained, There, goodOpen, GoodBound, GoodScheme}
 use Rattle.records.specs.Holds.{Holds}
-use Rattle.records.specs.Schemes.{bound-reader, scheme-told, scheme-given}
+use Rattle.records.specs.Schemes.{bound-reader}
+use Rattle.records.proofs.Schemes.{scheme-told, scheme-given}
 use Rattle.records.specs.Views.{viewAt}
 use Rattle.records.specs.declared.View.TheVariants as view
 use Rattle.types.specs.Given.{short_over}

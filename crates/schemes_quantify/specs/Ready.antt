@@ -1,32 +1,18 @@
 -- What quantifying is given, and what it makes.
-use Rattle.std.specs.Prelude.{◌≡◌, Bool, ℕ, ◌≤◌, ◌<◌, length, replicate, Ok, Err}
-use Rattle.std.proofs.Common.{arith}
-use mathlib.Core.List.{List, map}
+use Rattle.std.specs.Prelude.{Bool, ℕ, ◌≤◌, length}
+use mathlib.Core.List.{List}
 use Rattle.std.proofs.Math.Option.{Option}
-use Rattle.rules.specs.Base.{Got, got, bounded}
+use Rattle.rules.specs.Base.{Got, bounded}
 use Rattle.rules.specs.Names.{table_of, numbersOf}
 use Rattle.rules.specs.Replacing.{replaceTy}
 use Rattle.rules.specs.Schemes.{renamed}
 use Rattle.rules.specs.Trees.{Ty, Open, depth}
-use Rattle.rules.specs.Writing.{Rec, writeTy, writeBound}
-use Rattle.rules.specs.declared.Refusal.{Refusal}
-use Rattle.rules.specs.declared.Refusal.TheVariants.{TooLarge}
-use Rattle.laws.specs.NameTable.{good-laid}
+use Rattle.rules.specs.Writing.{Rec}
 use Rattle.schemes_renaming.specs.Places.{all_of}
-use Rattle.schemes_renaming.proofs.Sizes.{renamed-deep}
-use Rattle.records.specs.declared.View.TheVariants as view
-use Rattle.types.specs.declared.writer.Writer.{Writer}
-use Rattle.types.specs.Written.{Writes, Reserves, Begins}
-use Rattle.replace.specs.Leaves.{Leaves}
-use Rattle.replace.specs.Well.{GoodTy, Lent}
-use Rattle.replace.proofs.Walks.{on, stopped}
-use Rattle.records_buffers.specs.Handed.{made-refused}
-use Rattle.records_buffers.specs.Told.{Made}
+use Rattle.replace.specs.Well.{GoodTy}
 use Rattle.schemes_handed.specs.Bounds.{allBounds}
-use Rattle.schemes_handed.specs.Said.{quant-lent}
-use Rattle.schemes_handed.specs.Tables.{quantPlaces, quantTypes}
 use Rattle.schemes_handed.specs.declared.Handed.{Handed}
-use Rattle.schemes_quantify.specs.Core.{too_long, past, made-scheme, limitedScheme}
+use Rattle.schemes_quantify.specs.Core.{limitedScheme}
 
 -- by the words of a table and of handed numbers
 module _ (pool table numbers : List ℕ) where
@@ -37,13 +23,6 @@ module _ (pool table numbers : List ℕ) where
   quantifiedBy all t bs = limitedScheme (length numbers) (allBounds all renamingBy bs)
       (replaceTy (numbersOf (table_of pool table)) bounded (renamed renamingBy) t)
 
--- the renaming of handed names
-abbrev pub renaming : Handed → Open ℕ → Option (Open ℕ)
-renaming h = renamingBy h.names.pool.now h.names.table.now h.numbers.now
-
-abbrev pub renamedType : Handed → Ty ℕ → Got (Ty ℕ)
-renamedType h t = replaceTy (numbersOf (table_of h.names.pool.now h.names.table.now)) bounded (renamed (renaming h)) t
-
 abbrev pub quantifiedAs : Handed → Bool → Ty ℕ → List (Open ℕ) → Got (List Rec)
 quantifiedAs h all t bs = quantifiedBy h.names.pool.now h.names.table.now h.numbers.now all t bs
 
@@ -51,39 +30,3 @@ quantifiedAs h all t bs = quantifiedBy h.names.pool.now h.names.table.now h.numb
 pub record Sound (pool table : List ℕ) (t : Ty ℕ) : Type 0 where
   pub good : GoodTy pool table t
   pub flat : depth t ≤ 64
-
--- the tables that were filled
-pub tables : (h : Handed) (p v : List ℕ) → p ≡ quantPlaces h.numbers.now (replicate 512 0) → v ≡ quantTypes 0 h.numbers.now (replicate 1024 0)
-    → Lent h.names.pool.now h.names.table.now p v (renamed (renaming h))
-tables h p v a b = rw (a, b)
-    (quant-lent h.names.pool.now h.names.table.now h.numbers.now
-    (λ x i. let few = (good-laid h.names.good).few in let k = h.held x i in omega arith) h.few)
-
--- ══ The answers, from what the walk and the bounds left ══
-
-module _ (h : Handed) (all : Bool) (t : Ty ℕ) (bs : List (Open ℕ)) where
-  abbrev new : List (Open ℕ)
-  new = allBounds all (renaming h) bs
-
-  pub type-stopped : {w w' : Writer} {k : Refusal} (d : List ℕ) → Leaves writeTy w w' (Err k) (renamedType h t)
-      → Made (quantifiedAs h all t bs) d (Err k)
-  type-stopped {k = k} d l = made-refused k (rw (stopped l))
-
-  module _ (flat : depth t ≤ 64) where
-    shallow : (u : Ty ℕ) → renamedType h t ≡ got u → depth u ≤ 64
-    shallow u e = omega (arith, renamed-deep (numbersOf (table_of h.names.pool.now h.names.table.now)) bounded (renaming h) t u e, flat)
-
-    pub all-long : {w w₁ w₂ w₃ : Writer} {start : ℕ} (d : List ℕ) → w.at ≡ 0 → Reserves w w₁ start
-        → Leaves writeTy w₁ w₂ (Ok tt) (renamedType h t)
-        → Writes w₂ w₃ (map writeBound new) → 2048 < w₃.at → Made (quantifiedAs h all t bs) d (Err TooLarge)
-    all-long d z r p q l =
-        on p (λ u e k.
-        too_long (length h.numbers.now) new (renamedType h t) u e (shallow u e) d
-        (omega (arith, l, past (length h.numbers.now) new (renamedType h t) u e (shallow u e) z r k q)))
-
-    pub all_made : {w w₁ w₂ w₃ w₄ : Writer} {start : ℕ} → w.at ≡ 0 → 16384 ≤ length w.words.now → Reserves w w₁ start
-        → Leaves writeTy w₁ w₂ (Ok tt) (renamedType h t) → Writes w₂ w₃ (map writeBound new) → w₃.at ≤ 2048
-        → Begins w₃ w₄ start (view.Scheme (length h.numbers.now))
-        → Made (quantifiedAs h all t bs) w₄.words.now (Ok w₃.at)
-    all_made z room r p q le b =
-        on p (λ u e k. made-scheme (length h.numbers.now) new (renamedType h t) u e (shallow u e) z room r k q le b)

@@ -20,11 +20,12 @@ use Rattle.rules.specs.Replacing.{asProduct, replaceTy}
 use Rattle.rules.specs.Schemes.{Scheme, scheme, renamed, renamedBounds, back, quantify, put_back, instantiate, schemeLimited}
 use Rattle.rules.specs.WellFormed.{goodOpen, goodTy}
 use Rattle.laws.specs.Order.{Lawful, Tells}
-use Rattle.laws.specs.Lists.{All, all_nil, all_cons, in_head, some≢none, got≢refused, is-yes}
-use Rattle.laws.specs.Sized.{sized-kept, sized-deep, sized_same, sized-small}
+use Rattle.laws.specs.Lists.{All, all_nil, all_cons, in_head, is-yes}
+use Rattle.laws.proofs.Lists.{some≢none, got≢refused}
+use Rattle.laws.proofs.Sized.{sized-kept, sized-deep, sized_same, sized-small}
 use Rattle.laws.specs.GoodProducts.{goodAtom}
-use Rattle.laws.specs.KeepsGood.{GoodTy, ty_kept}
-use Rattle.laws.specs.Weaker.{ty-weaker}
+use Rattle.laws.proofs.KeepsGood.{GoodTy, ty_kept}
+use Rattle.laws.proofs.Weaker.{ty-weaker}
 use Rattle.schemes_renaming.proofs.Products.{moved, moved_none, moved-some, Renames}
 use Rattle.schemes_renaming.proofs.Types.{andLater, Becomes, Twice, ty-twice}
 use Rattle.schemes_renaming.proofs.Occurring.{ty-occurs}

@@ -12,11 +12,14 @@ use Rattle.rules.specs.Exponents.{Exp, frac, nought, one, gcd, neg, mul, in_rang
 use Rattle.rules.specs.Trees.{Open, Atom, free, Factor, ◌↑◌, Product, Names, orderAtom}
 use Rattle.rules.specs.Products.{put, just, inverse, mergeOne, merge, multiply, divide, raise}
 use Rattle.rules.specs.WellFormed.{atomOf}
-use Rattle.laws.specs.Order.{Lawful, self}
-use Rattle.laws.specs.Lists.{All, in_head, and_left, every-all}
-use Rattle.laws.specs.Fractions.{plus-neg, mul-one', mul-comm'}
-use Rattle.laws.specs.Ranges.{good-lowest, stored-good, stored-not-zero}
-use Rattle.laws.specs.Sorted.{Sorted, merge-nil, merge-sorted}
+use Rattle.laws.specs.Order.{Lawful}
+use Rattle.laws.proofs.Order.{self}
+use Rattle.laws.specs.Lists.{All, in_head, and_left}
+use Rattle.laws.proofs.Lists.{every-all}
+use Rattle.laws.proofs.Fractions.{plus-neg, mul-one', mul-comm'}
+use Rattle.laws.proofs.Ranges.{good-lowest, stored-good, stored-not-zero}
+use Rattle.laws.specs.Sorted.{Sorted}
+use Rattle.laws.proofs.Sorted.{merge-nil, merge-sorted}
 
 -- ══ Exponents ══
 

@@ -18,13 +18,14 @@ use Rattle.rules.specs.Replacing.{asProduct, replaceTy}
 use Rattle.rules.specs.Schemes.{scheme, renamed, renamedBounds, quantifies, quantifyFrom, quantify, schemeLimited}
 use Rattle.rules.specs.WellFormed.{goodOpen, goodTy}
 use Rattle.laws.specs.Order.{Lawful, Tells}
-use Rattle.laws.specs.Lists.{All, all_nil, all_cons, all-every, every-all, some≢none, yes-is}
-use Rattle.laws.specs.Contents.{not-mixed}
+use Rattle.laws.specs.Lists.{All, all_nil, all_cons, all-every}
+use Rattle.laws.proofs.Lists.{every-all, some≢none, yes-is}
+use Rattle.laws.proofs.Contents.{not-mixed}
 use Rattle.laws.specs.GoodProducts.{goodAtom}
-use Rattle.laws.specs.KeepsGood.{GoodTy, ty_kept}
-use Rattle.laws.specs.KnownNames.{ty-known}
-use Rattle.laws.specs.Untouched.{ty_same}
-use Rattle.laws.specs.Weaker.{ty-weaker}
+use Rattle.laws.proofs.KeepsGood.{GoodTy, ty_kept}
+use Rattle.laws.proofs.KnownNames.{ty-known}
+use Rattle.laws.proofs.Untouched.{ty_same}
+use Rattle.laws.proofs.Weaker.{ty-weaker}
 use Rattle.schemes_renaming.proofs.Products.{moved, Renames}
 use Rattle.schemes_renaming.proofs.Occurring.{ty-occurs}
 use Rattle.schemes_renaming.proofs.Types.{andLater, Becomes, Twice, ty-twice}

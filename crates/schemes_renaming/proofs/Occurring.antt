@@ -33,13 +33,15 @@ use Rattle.rules.specs.Products.{just, single}
 use Rattle.rules.specs.Replacing.{Look, replaceFactors, replaceProduct, replaceDim, replaceTy, replaceTys, replaceFields}
 use Rattle.rules.specs.WellFormed.{goodProduct, goodTy, goodTys, goodFields}
 use Rattle.laws.specs.Order.{Lawful, Tells}
-use Rattle.laws.specs.Lists.{and_left, and_right, All, all_nil, all_cons, all_append, in_head, one-step, two_steps, Every}
-use Rattle.laws.specs.Exact.{factors-below}
-use Rattle.laws.specs.GoodProducts.{goodAtom, good-proper}
-use Rattle.laws.specs.KeepsGood.{GoodTy}
-use Rattle.laws.specs.RuleCases.{single-is}
-use Rattle.laws.specs.Occurs.{OnFactor, each_opens, opens-each, valued-on, as-product-is, fits-got, fits-fit}
-use Rattle.laws.specs.Evaluation.{valued, value_of, meantBy, orSelf, Fit, replace-exact}
+use Rattle.laws.specs.Lists.{and_left, and_right, All, all_nil, all_cons, in_head, Every}
+use Rattle.laws.proofs.Lists.{all_append, one-step, two_steps}
+use Rattle.laws.proofs.Exact.{factors-below}
+use Rattle.laws.specs.GoodProducts.{goodAtom}
+use Rattle.laws.proofs.GoodProducts.{good-proper}
+use Rattle.laws.proofs.KeepsGood.{GoodTy}
+use Rattle.laws.proofs.RuleCases.{single-is}
+use Rattle.laws.proofs.Occurs.{OnFactor, each_opens, opens-each, valued-on, as-product-is, fits-got, fits-fit}
+use Rattle.laws.proofs.Evaluation.{valued, value_of, meantBy, orSelf, Fit, replace-exact}
 
 module _ {N : Type 0} (ν : Names N) (law : Lawful (orderAtom ν)) (held : N → Bool) (q : ℕ) (tells : Tells (λ a. goodAtom ν held q a ≡ true) (orderAtom ν))
     (look : Look N) (good : (o : Open N) (t : Ty N) → look o ≡ some t → GoodTy ν law held q t) (P Q : Open N → Type 0)

@@ -43,9 +43,11 @@ use Rattle.rules.specs.Replacing.{asProduct, replaceProduct, replaceDim, replace
 use Rattle.rules.specs.Schemes.{renamed}
 use Rattle.rules.specs.WellFormed.{goodOpen, goodProduct, goodTy, goodTys, goodFields}
 use Rattle.laws.specs.Order.{Lawful, Tells}
-use Rattle.laws.specs.Lists.{and_left, and_right, All, in_head, some≢none}
-use Rattle.laws.specs.GoodProducts.{goodAtom, good-product}
-use Rattle.laws.specs.RuleCases.{single-is}
+use Rattle.laws.specs.Lists.{and_left, and_right, All, in_head}
+use Rattle.laws.proofs.Lists.{some≢none}
+use Rattle.laws.specs.GoodProducts.{goodAtom}
+use Rattle.laws.proofs.GoodProducts.{good-product}
+use Rattle.laws.proofs.RuleCases.{single-is}
 use Rattle.schemes_renaming.proofs.Factors.{same-factors}
 use Rattle.schemes_renaming.proofs.Products.{moved, movedFactor, Renames, product-renamed}
 

@@ -13,11 +13,14 @@ use Rattle.rules.specs.Products.{just}
 use Rattle.rules.specs.Replacing.{asProduct, replaceFactors, replaceProduct}
 use Rattle.rules.specs.Schemes.{renamed}
 use Rattle.rules.specs.WellFormed.{atomOf, goodOpen, goodProduct}
-use Rattle.laws.specs.Order.{Lawful, Tells, self}
-use Rattle.laws.specs.Lists.{All, in_head, every-all, all-every, collect-from}
+use Rattle.laws.specs.Order.{Lawful, Tells}
+use Rattle.laws.proofs.Order.{self}
+use Rattle.laws.specs.Lists.{All, in_head, all-every}
+use Rattle.laws.proofs.Lists.{every-all, collect-from}
 use Rattle.laws.specs.Sorted.{Sorted}
-use Rattle.laws.specs.GoodProducts.{goodAtom, GoodFactor, good-product, product-good}
-use Rattle.laws.specs.Occurs.{OnFactor, opens-each}
+use Rattle.laws.specs.GoodProducts.{goodAtom}
+use Rattle.laws.proofs.GoodProducts.{GoodFactor, good-product, product-good}
+use Rattle.laws.proofs.Occurs.{OnFactor, opens-each}
 use Rattle.schemes_renaming.proofs.Factors.{Swapped, Removed, swapped}
 
 module _ {N : Type 0} (f : Open N → Option (Open N)) where

@@ -12,13 +12,14 @@ use Rattle.rules.specs.Replacing.{replaceTy}
 use Rattle.rules.specs.Schemes.{renamed, renamedBounds, back, put_back, schemeLimited}
 use Rattle.rules.specs.WellFormed.{goodOpen, goodTy}
 use Rattle.laws.specs.Order.{Lawful, Tells}
-use Rattle.laws.specs.Lists.{All, all_nil, all_cons, all-every, every-all, some≢none}
-use Rattle.laws.specs.Sized.{sized-kept}
+use Rattle.laws.specs.Lists.{All, all_nil, all_cons, all-every}
+use Rattle.laws.proofs.Lists.{every-all, some≢none}
+use Rattle.laws.proofs.Sized.{sized-kept}
 use Rattle.laws.specs.GoodProducts.{goodAtom}
-use Rattle.laws.specs.KeepsGood.{GoodTy, ty_kept}
-use Rattle.laws.specs.KnownNames.{ty-known}
-use Rattle.laws.specs.Untouched.{ty_same}
-use Rattle.laws.specs.Weaker.{ty-weaker}
+use Rattle.laws.proofs.KeepsGood.{GoodTy, ty_kept}
+use Rattle.laws.proofs.KnownNames.{ty-known}
+use Rattle.laws.proofs.Untouched.{ty_same}
+use Rattle.laws.proofs.Weaker.{ty-weaker}
 use Rattle.schemes_renaming.proofs.Products.{Renames}
 use Rattle.schemes_renaming.proofs.Occurring.{ty-occurs}
 use Rattle.schemes_renaming.proofs.Own.{own, Named, plain-once}

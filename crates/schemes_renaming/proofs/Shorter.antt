@@ -44,10 +44,13 @@ use Rattle.rules.specs.Products.{put, just, single, inverse, mergeOne, merge, mu
 use Rattle.rules.specs.Replacing.{asProduct, replaceFactors, replaceProduct, replaceDim, replaceTy, replaceTys, replaceFields}
 use Rattle.rules.specs.Schemes.{renamed, back}
 use Rattle.rules.specs.WellFormed.{atomOf, goodProduct, goodTy, goodTys, goodFields}
-use Rattle.laws.specs.Order.{Lawful, self}
-use Rattle.laws.specs.Lists.{All, in_head, every-all, and_left, and_right, bound-step, one-step, two_steps, allow-same}
-use Rattle.laws.specs.Sorted.{Sorted, merge-nil, merge-sorted}
-use Rattle.laws.specs.GoodProducts.{GoodFactor, good-product}
+use Rattle.laws.specs.Order.{Lawful}
+use Rattle.laws.proofs.Order.{self}
+use Rattle.laws.specs.Lists.{All, in_head, and_left, and_right}
+use Rattle.laws.proofs.Lists.{every-all, bound-step, one-step, two_steps, allow-same}
+use Rattle.laws.specs.Sorted.{Sorted}
+use Rattle.laws.proofs.Sorted.{merge-nil, merge-sorted}
+use Rattle.laws.proofs.GoodProducts.{GoodFactor, good-product}
 use Rattle.schemes_renaming.proofs.Factors.{Removed, removed, raise-just}
 use Rattle.schemes_renaming.proofs.Again.{back_is}
 

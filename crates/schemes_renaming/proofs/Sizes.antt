@@ -41,7 +41,8 @@ use Rattle.rules.specs.Replacing.{Look, replaceProduct, replaceDim, replaceTy, r
 use Rattle.rules.specs.Schemes.{renamed}
 use Rattle.rules.specs.WellFormed.{goodProduct, goodTy, goodTys, goodFields}
 use Rattle.laws.specs.Order.{Lawful, Tells}
-use Rattle.laws.specs.Lists.{and_left, and_right, All, one-step, two_steps, some≢none}
+use Rattle.laws.specs.Lists.{and_left, and_right, All}
+use Rattle.laws.proofs.Lists.{one-step, two_steps, some≢none}
 use Rattle.laws.specs.GoodProducts.{goodAtom}
 use Rattle.schemes_renaming.proofs.Products.{Renames, product-renamed}
 

@@ -43,9 +43,10 @@ use Rattle.rules.specs.Replacing.{asProduct, replaceFactors, replaceProduct, rep
 use Rattle.rules.specs.Schemes.{renamed}
 use Rattle.rules.specs.WellFormed.{goodProduct, goodTy, goodTys, goodFields}
 use Rattle.laws.specs.Order.{Lawful, Tells}
-use Rattle.laws.specs.Lists.{and_left, and_right, All, in_head, some≢none, got≢refused, collect-to}
+use Rattle.laws.specs.Lists.{and_left, and_right, All, in_head}
+use Rattle.laws.proofs.Lists.{some≢none, got≢refused, collect-to}
 use Rattle.laws.specs.GoodProducts.{goodAtom}
-use Rattle.laws.specs.RuleCases.{single-is}
+use Rattle.laws.proofs.RuleCases.{single-is}
 use Rattle.schemes_renaming.proofs.Factors.{same-factors}
 use Rattle.schemes_renaming.proofs.Products.{moved, movedFactor, moved_none, moved-some, Renames, Moved, Renamed, product-renamed, renamed-good, renamed-names}
 

@@ -78,14 +78,16 @@ fn holds(alloc: Global, case: &Case) -> Result<bool> {
     }
     match &case.expected {
         Expected::Read(given) => Ok(
-            table == Table::new(alloc, case, &given.new)? && begins(&result, &given.words)
+            table == Table::new(alloc, case, &given.new)?
+                && begins(&result, &given.words)
                 && work.iter().all(|w| *w == 0)
                 && written_holds(alloc, given, &table)?,
         ),
         Expected::Refused(number, ..) => {
             let after = if *number == 10 { WORK_BEFORE } else { 0 };
             Ok(
-                table == Table::new(alloc, case, &[])? && begins(&result, &[])
+                table == Table::new(alloc, case, &[])?
+                    && begins(&result, &[])
                     && work.iter().all(|w| *w == after),
             )
         }

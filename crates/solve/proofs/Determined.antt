@@ -7,7 +7,7 @@ use Rattle.rules.specs.Calls.{solveCall}
 use Rattle.rules.specs.Numbers as numbers
 use Rattle.rules.specs.Numbers.{number}
 use Rattle.rules.specs.declared.Refusal.{Refusal}
-use Rattle.laws.specs.Numbers.{number-injective}
+use Rattle.laws.proofs.Numbers.{number-injective}
 use Rattle.solve_finish.specs.Told.{toldFinish}
 use Rattle.solve_finish.specs.declared.Finish.{Finish}
 use Rattle.solve_finish.specs.declared.Finish.TheVariants.{Solved, Unsolved}

@@ -1,1 +1,3 @@
 pub mod Determined
+pub mod Entry
+pub mod Running

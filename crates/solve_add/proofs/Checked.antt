@@ -9,13 +9,15 @@ use Rattle.rules.specs.Names.{Table, table_of, tableGiven, lentTable}
 use Rattle.rules.specs.Refusals.{toldBy}
 use Rattle.rules.specs.Trees.{Con}
 use Rattle.rules.specs.declared.Refusal.{Refusal}
-use Rattle.laws.specs.Checks.{need-passed, first-passed, next-passed}
-use Rattle.laws.specs.Lists.{bracket, clash, not-true, not-false}
+use Rattle.laws.proofs.Checks.{need-passed, first-passed, next-passed}
+use Rattle.std.proofs.lemmas.Bool.{not-true, not-false}
+use Rattle.laws.proofs.Lists.{bracket, clash}
 use Rattle.names.specs.Told.{unit_of}
 use Rattle.names.specs.declared.tables.NameTable.{NameTable}
 use Rattle.types.proofs.Tested.{kept, tested}
 use Rattle.types.specs.Given.{over_table, set_over}
-use Rattle.types.specs.Sets.{placed, alone, placed-alone}
+use Rattle.types.specs.Sets.{placed}
+use Rattle.types.proofs.OnSets.{alone, placed-alone}
 use Rattle.solve_add.specs.Entry.{one_over, passing, lentBuffer, oneGiven, checks}
 
 -- ══ One constraint ══

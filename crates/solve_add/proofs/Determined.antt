@@ -4,7 +4,7 @@ use Rattle.std.proofs.Common.{ap, sym, ◌∙◌}
 use Rattle.rules.specs.Adding as rules
 use Rattle.rules.specs.Calls.{AddedTo}
 use Rattle.rules.specs.Numbers.{refusalIn, number}
-use Rattle.laws.specs.Numbers.{toldBy-injective, answer-in-by}
+use Rattle.laws.proofs.Numbers.{toldBy-injective, answer-in-by}
 use Rattle.solve_add.specs.declared.Verdict.{Verdict}
 use Rattle.solve_add.specs.declared.Verdict.TheVariants.{Satisfied, Violated, Unknown}
 use Rattle.solve_add.specs.Told.{toldVerdict, counted, addedAs}

@@ -1,5 +1,6 @@
 pub mod Checked
 mod Determined
 pub mod Others
+pub mod Stored
 pub mod Tests
 pub mod Whole

@@ -8,8 +8,8 @@ use Rattle.rules.specs.Contents.{closed, variablesIn}
 use Rattle.rules.specs.Names.{Bytes, numbered}
 use Rattle.rules.specs.Trees.{◌↑◌, Atom, free, base, Open, Ty, is_scalar, Product, openOfFactor, ty-dec}
 use Rattle.rules.specs.Views.{fn_of, kind, variable}
-use Rattle.laws.specs.Contents.{collect-append}
-use Rattle.laws.specs.Lists.{true≢false}
+use Rattle.laws.proofs.Contents.{collect-append}
+use Rattle.laws.proofs.Lists.{true≢false}
 use Rattle.queries.specs.Scans.{opensAtom}
 
 module _ (names : List Bytes) (l r : Ty ℕ) {v : Added} (b : Bool) where

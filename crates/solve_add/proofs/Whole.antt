@@ -13,12 +13,13 @@ use Rattle.rules.specs.Calls.{shortLists, tableKept, setGiven, bufferAfter, adde
 use Rattle.rules.specs.Names.{table_of}
 use Rattle.rules.specs.Reading.{readCon}
 use Rattle.rules.specs.Trees.{Con, sizeCon}
-use Rattle.laws.specs.Checks.{need-passed, first-passed, next-passed}
-use Rattle.laws.specs.Lists.{clash, and_left}
+use Rattle.laws.proofs.Checks.{need-passed, first-passed, next-passed}
+use Rattle.laws.specs.Lists.{and_left}
+use Rattle.laws.proofs.Lists.{clash}
 use Rattle.records.specs.Found.{Words32}
-use Rattle.records.specs.Given.{list-broken, con-reader, one-is}
+use Rattle.records.proofs.Given.{list-broken, con-reader, one-is}
 use Rattle.records.specs.Good.{Chain, GoodCon, goodCon, numbers}
-use Rattle.records.specs.Whole.{set_is}
+use Rattle.records.proofs.Whole.{set_is}
 use Rattle.solve_add.specs.Entry.{passing, lentBuffer, oneGiven, checks}
 use Rattle.solve_add.proofs.Checked.{room}
 use Rattle.solve_add.specs.Stored.{Ready, addedWith}

@@ -7,7 +7,8 @@ use borrow.Author.Tests.{le-leb, lt-leb, leb-true, eqb-true}
 use Rattle.rules.specs.Base.{Got, got, refused, ◌>>=◌, ◌>>◌, need, sum_of}
 use Rattle.rules.specs.Calls.{lentWork, workAfter, solvedSet}
 use Rattle.rules.specs.Names.{lentTable, table_of}
-use Rattle.laws.specs.Lists.{clash, not-true, not-false}
+use Rattle.std.proofs.lemmas.Bool.{not-true, not-false}
+use Rattle.laws.proofs.Lists.{clash}
 use Rattle.rules.specs.Batches.{batchLent, batchFits, batchCall, eachSolved, writtenOver}
 use Rattle.solve_batch.specs.Told.{batchAs}
 use Rattle.solve_batch.specs.Steps.{Begun, Finished}

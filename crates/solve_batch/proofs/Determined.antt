@@ -6,7 +6,7 @@ use Rattle.std.proofs.Common.{sym, ◌∙◌}
 use mathlib.Core.List.{List}
 use Rattle.rules.specs.Batches.{Batch}
 use Rattle.rules.specs.Numbers.{refusalIn, number}
-use Rattle.laws.specs.Numbers.{answer-in, told-injective}
+use Rattle.laws.proofs.Numbers.{answer-in, told-injective}
 use Rattle.solve_batch.specs.Told.{batchAs}
 use Rattle.solve_batch.specs.Theorems.{OneResult, BatchDetermined, BatchNumbered}
 

@@ -1,4 +1,5 @@
-pub mod Promise
-pub mod Determined
 pub mod Cases
 pub mod Checks
+pub mod Determined
+pub mod Promise
+pub mod Steps

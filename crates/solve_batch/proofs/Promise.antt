@@ -11,7 +11,8 @@ use Rattle.rules.specs.Calls.{lent, over, resultAfter, Solved, solvedOf, solvedW
 use Rattle.rules.specs.Names.{Table, table_of}
 use Rattle.rules.specs.Solving.{Answer}
 use Rattle.rules.specs.Batches.{cutSets, eachSolved, answeredWords, fourWords, recordsOf, batchLent, batchFits, writtenOver, batchCall}
-use Rattle.laws.specs.Answers.{words_of, manyOf, answer-long, four-long}
+use Rattle.laws.specs.Answers.{words_of, manyOf}
+use Rattle.laws.proofs.Answers.{answer-long, four-long}
 use Rattle.solve_batch.specs.Promise.{set_at, place_of, AsAlone}
 use Rattle.solve_batch.specs.Steps.{fourOf}
 

@@ -7,17 +7,18 @@ use Rattle.rules.specs.Names.{table_of, names_of}
 use Rattle.rules.specs.Calls.{aloneGiven, setGiven, setCall}
 use Rattle.rules.specs.Ceiling.{Ceiling, variablesOf, ceilingFor, ceilingCall}
 use Rattle.laws.specs.ByteOrder.{numbered-lawful}
-use Rattle.laws.specs.Checks.{passed, stopped}
-use Rattle.laws.specs.Lists.{clash}
+use Rattle.laws.proofs.Checks.{passed, stopped}
+use Rattle.laws.proofs.Lists.{clash}
 use Rattle.laws.specs.NameTable.{good-laid, held_tells}
 use Rattle.records.specs.Found.{Words32}
 use Rattle.records.specs.Good.{numbers}
-use Rattle.records.specs.Whole.{entry-good, set_is}
+use Rattle.records.proofs.Whole.{entry-good, set_is}
 use Rattle.queries.specs.declared.Kind.TheVariants.{Variables}
-use Rattle.queries.specs.GoodOpens.{names-held}
-use Rattle.queries.specs.Runs.{set-opens, set_known}
+use Rattle.queries.proofs.GoodOpens.{names-held}
+use Rattle.queries.proofs.Runs.{set-opens, set_known}
 use Rattle.queries.specs.Scans.{choose, opensIn}
-use Rattle.solve_ceiling.specs.Counting.{Distinct, counted-few, counted-all, distinct-sorted}
+use Rattle.solve_ceiling.specs.Counting.{Distinct}
+use Rattle.solve_ceiling.proofs.Counting.{counted-few, counted-all, distinct-sorted}
 
 -- where a row of checks and a value give an answer, the checks alone pass
 checked : {A B : Type 0} (a : Got (Unit {0})) (m : Got A) (f : A → B) (b : B) → (a >>= λ _. m >>= λ x. got (f x)) ≡ got b → (a >> m >> got (tt {0})) ≡ got tt

@@ -3,7 +3,7 @@ use Rattle.std.specs.Prelude.{◌≡◌}
 use Rattle.std.proofs.Common.{sym, ap, ◌∙◌}
 use Rattle.rules.specs.Ceiling.{Ceiling}
 use Rattle.rules.specs.Numbers.{refusalIn, number}
-use Rattle.laws.specs.Numbers.{toldBy-injective, answer-in-by}
+use Rattle.laws.proofs.Numbers.{toldBy-injective, answer-in-by}
 use Rattle.solve_ceiling.specs.declared.Most.{Most}
 use Rattle.solve_ceiling.specs.Told.{toldMost}
 use Rattle.solve_ceiling.specs.Theorems.{CeilingDetermined, CeilingNumbered}

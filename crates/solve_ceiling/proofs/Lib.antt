@@ -1,2 +1,3 @@
-mod Determined
 pub mod Answers
+pub mod Counting
+mod Determined

@@ -14,11 +14,12 @@ use Rattle.rules.specs.declared.Refusal.{Refusal}
 use Rattle.names.specs.Told.{unit_of}
 use Rattle.names.specs.declared.tables.NameTable.{NameTable}
 use Rattle.types.specs.Given.{call_over}
-use Rattle.solve.specs.Entry.{over_tested}
+use Rattle.solve.proofs.Entry.{over_tested}
 use Rattle.rules.specs.Solving.{Answer, solve}
 use Rattle.rules.specs.Trees.{Con}
 use Rattle.rules.specs.declared.Refusal.TheVariants.{ShortBuffer}
-use Rattle.laws.specs.Answers.{words_of, manyOf, answer-long}
+use Rattle.laws.specs.Answers.{words_of, manyOf}
+use Rattle.laws.proofs.Answers.{answer-long}
 use Rattle.solve.specs.declared.Solution.{Solution}
 use Rattle.judge.specs.Found.{JudgedAs}
 use Rattle.solve.specs.Told.{toldSolution, refusedAs, solutionAs, Answered}

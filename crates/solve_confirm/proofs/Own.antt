@@ -12,9 +12,10 @@ use Rattle.rules.specs.Solving.{Answer, accepted, remaining, stopped, solve}
 use Rattle.rules.specs.Trees.{Names, Con, Binding, opensCon}
 use Rattle.rules.specs.WellFormed.{goodBinding}
 use Rattle.rules.specs.declared.Refusal.{Refusal}
-use Rattle.laws.specs.Checks.{need-passed}
-use Rattle.laws.specs.Given.{lent-long, kept-good, set-read}
-use Rattle.laws.specs.Lists.{and_left, is_all, all-every, bound-step}
+use Rattle.laws.proofs.Checks.{need-passed}
+use Rattle.laws.proofs.Given.{lent-long, kept-good, set-read}
+use Rattle.laws.specs.Lists.{and_left, all-every}
+use Rattle.laws.proofs.Lists.{is_all, bound-step}
 use Rattle.laws.specs.NameTable.{Good}
 use Rattle.records.specs.Found.{Words32}
 use Rattle.records.specs.Good.{numbers, holding}

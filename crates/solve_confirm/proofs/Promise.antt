@@ -25,7 +25,7 @@ use Rattle.rules.specs.Judging.{judge}
 use Rattle.rules.specs.Names.{Table, table_of, numbersOf, is_held, lentTable}
 use Rattle.rules.specs.Solving.{Answer, accepted, remaining, stopped}
 use Rattle.rules.specs.Trees.{Names, Con, Binding, opensCon, sizeBinding}
-use Rattle.laws.specs.Lists.{bound-step}
+use Rattle.laws.proofs.Lists.{bound-step}
 use Rattle.theorems_soundness.specs.Claims.{Proposes, SoundAnswer}
 use Rattle.theorems_soundness.proofs.Form.{final, solved-form}
 use Rattle.theorems_soundness.proofs.Judged.{yes-solves}

@@ -10,7 +10,7 @@ use Rattle.rules.specs.Names.{Table, numbersOf}
 use Rattle.rules.specs.Solving.{Answer, accepted, remaining, stopped}
 use Rattle.rules.specs.Trees.{Con, Binding, sizeBinding}
 use Rattle.laws.specs.Answers.{words_of}
-use Rattle.laws.specs.Lists.{bound-step}
+use Rattle.laws.proofs.Lists.{bound-step}
 use Rattle.judge.specs.Found.{JudgedAs}
 use Rattle.solve_confirm.specs.Told.{ruledBy}
 

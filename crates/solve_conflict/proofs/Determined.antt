@@ -3,7 +3,7 @@ use Rattle.std.specs.Prelude.{◌≡◌}
 use Rattle.std.proofs.Common.{ap, sym, ◌∙◌}
 use Rattle.rules.specs.Conflicts.{Conflicts}
 use Rattle.rules.specs.Refusals.{toldOption}
-use Rattle.laws.specs.Numbers.{toldBy-injective, toldOption-injective}
+use Rattle.laws.proofs.Numbers.{toldBy-injective, toldOption-injective}
 use Rattle.solve_conflict.specs.Told.{conflictsAs}
 use Rattle.solve_conflict.specs.Theorems.{ConflictDetermined}
 

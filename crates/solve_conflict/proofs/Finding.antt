@@ -11,7 +11,7 @@ use Rattle.rules.specs.Refusals.{told, toldBy, number_of}
 use Rattle.rules.specs.Trees.{Names, Con}
 use Rattle.rules.specs.declared.Refusal.{Refusal}
 use Rattle.queries.specs.Marks.{Filled}
-use Rattle.queries.specs.SortMarks.{over_none}
+use Rattle.queries.proofs.SortMarks.{over_none}
 use Rattle.solve_conflict.specs.Standing.{line_place, standing, On, before, behind, run, LeftOut}
 use Rattle.solve_conflict.specs.Told.{FoundAs}
 use Rattle.solve_conflict.proofs.Marks.{stand-all}

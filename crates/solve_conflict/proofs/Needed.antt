@@ -11,7 +11,8 @@ use Rattle.rules.specs.Conflicts.{Conflict, Line, wideOf, remains, conflicting, 
 use Rattle.rules.specs.Solving.{Answer, accepted, remaining, stopped, solve}
 use Rattle.rules.specs.Trees.{Names, Con}
 use Rattle.rules.specs.WellFormed.{goodCon}
-use Rattle.laws.specs.Lists.{All, all_nil, all_append, is_all, bound-step, clash, true≢false, map-from, map-to}
+use Rattle.laws.specs.Lists.{All, all_nil}
+use Rattle.laws.proofs.Lists.{all_append, is_all, bound-step, clash, true≢false, map-from, map-to}
 use Rattle.laws.specs.Order.{Lawful, Tells}
 use Rattle.theorems_completeness.specs.Claims.{Five, Stopped, WideSet}
 use Rattle.theorems_completeness.specs.Theorems.{WideDecided}

@@ -9,10 +9,12 @@ use Rattle.rules.specs.Conflicts.{linesFrom, wideOf}
 use Rattle.rules.specs.Trees.{Con}
 use Rattle.rules.specs.Writing.{writeCon}
 use Rattle.queries.specs.Marks.{Filled}
-use Rattle.queries.specs.SortMarks.{over-put, over_none}
+use Rattle.queries.proofs.SortMarks.{over-put, over_none}
 use Rattle.types.specs.declared.writer.Writer.{Writer}
-use Rattle.types.specs.Sets.{alone, placed, placed-alone}
-use Rattle.types.specs.Written.{Writes, writes-none, writes-then}
+use Rattle.types.specs.Sets.{placed}
+use Rattle.types.proofs.OnSets.{alone, placed-alone}
+use Rattle.types.specs.Written.{Writes}
+use Rattle.types.proofs.Written.{writes-none, writes-then}
 use Rattle.solve_conflict.proofs.Loops.{Putting, Placing}
 use Rattle.solve_conflict.specs.Standing.{line_place, standing}
 use Rattle.solve_conflict.proofs.Marks.{stands-first, stands-not}

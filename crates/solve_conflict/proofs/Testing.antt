@@ -13,12 +13,13 @@ use Rattle.rules.specs.declared.Refusal.{Refusal}
 use Rattle.rules.specs.Trees.{Names, Con, sizeCon, depthCon}
 use Rattle.rules.specs.WellFormed.{goodCon}
 use Rattle.rules.specs.Writing.{words, writeCon}
-use Rattle.laws.specs.Lists.{and_left, and_right, and_both}
-use Rattle.laws.specs.Size.{set-length}
+use Rattle.laws.specs.Lists.{and_left, and_right}
+use Rattle.laws.proofs.Lists.{and_both}
+use Rattle.laws.proofs.Size.{set-length}
 use Rattle.records.specs.Good.{numbers, holding}
-use Rattle.records.specs.Buffers.{words-length}
-use Rattle.replace.specs.Kept.{cons-weaker}
-use Rattle.replace.specs.Written.{written-cons}
+use Rattle.laws.proofs.Size.{words-length}
+use Rattle.replace.proofs.Kept.{cons-weaker}
+use Rattle.replace.proofs.Written.{written-cons}
 use Rattle.solve_finish.specs.declared.Finish.{Finish}
 use Rattle.solve_finish.specs.declared.Finish.TheVariants as finish
 use Rattle.solve.specs.declared.Solution.{Solution}

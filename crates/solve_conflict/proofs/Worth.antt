@@ -12,9 +12,11 @@ use Rattle.rules.specs.Names.{Table, table_of, tableGood, numbersOf, is_held, le
 use Rattle.rules.specs.Trees.{Names, Con, opensCon}
 use Rattle.rules.specs.WellFormed.{goodCon}
 use Rattle.laws.specs.ByteOrder.{numbered-lawful}
-use Rattle.laws.specs.Checks.{need-passed}
-use Rattle.laws.specs.Given.{held-apart, lent-long, set-read}
-use Rattle.laws.specs.Lists.{all-is, and_left, bound-step, One, one-step, some≢none, map-to}
+use Rattle.laws.proofs.Checks.{need-passed}
+use Rattle.laws.specs.Given.{held-apart}
+use Rattle.laws.proofs.Given.{lent-long, set-read}
+use Rattle.laws.specs.Lists.{all-is, and_left}
+use Rattle.laws.proofs.Lists.{bound-step, One, one-step, some≢none, map-to}
 use Rattle.laws.specs.Order.{Lawful, Tells}
 use Rattle.solve_conflict.specs.Theorems.{PartOf, ConflictTold, NoneTold, ConflictsAreTold, NoneOnlyWithChoice}
 use Rattle.solve_conflict.proofs.Marks.{lines-long}

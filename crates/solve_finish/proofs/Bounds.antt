@@ -35,30 +35,33 @@ use Rattle.rules.specs.Trees.{
   sizeBinding,
 }
 use Rattle.rules.specs.Writing.{Rec, words, writeCon, writeBinding, writeBound}
-use Rattle.laws.specs.KnownNames.{every_append, Known, con-known}
-use Rattle.laws.specs.ReadLists.{Every}
-use Rattle.laws.specs.SortedNames.{sort-few}
-use Rattle.laws.specs.Size.{set-length, bindings-length}
-use Rattle.records.specs.Buffers.{words-length, stored}
+use Rattle.laws.proofs.Lists.{every_append}
+use Rattle.laws.proofs.KnownNames.{Known, con-known}
+use Rattle.laws.specs.Lists.{Every}
+use Rattle.laws.proofs.SortedNames.{sort-few}
+use Rattle.laws.proofs.Size.{set-length, bindings-length}
+use Rattle.laws.proofs.Size.{words-length}
+use Rattle.records.proofs.Buffers.{stored}
 use Rattle.records.specs.Good.{Chain, goodCon, numbers, holding}
-use Rattle.records.specs.Held.{shown, parted}
+use Rattle.records.proofs.Held.{shown, parted}
 use Rattle.records.specs.Holds.{HoldsCon, HoldsBounds}
-use Rattle.records.specs.Stores.{sets-append}
+use Rattle.records.proofs.Stores.{sets-append}
 use Rattle.records.specs.Views.{recOf, from}
 use Rattle.records.specs.declared.Open.TheVariants.{Var}
 use Rattle.records.specs.declared.View.TheVariants as view
-use Rattle.queries.specs.GoodOpens.{names-held}
+use Rattle.queries.proofs.GoodOpens.{names-held}
 use Rattle.queries.specs.Marks.{Filled}
-use Rattle.queries.specs.ScanLaws.{con-opens, chain-opens}
+use Rattle.queries.proofs.ScanLaws.{con-opens, chain-opens}
 use Rattle.queries.specs.Scans.{choose, opensIn}
 use Rattle.queries.specs.declared.Kind.TheVariants.{Both}
-use Rattle.replace.specs.Kept.{cons-weaker, binds-weaker}
+use Rattle.replace.proofs.Kept.{cons-weaker, binds-weaker}
 use Rattle.replace.proofs.Writes.{words_append, writes}
-use Rattle.replace.specs.Written.{written-cons, binds-held}
+use Rattle.replace.proofs.Written.{written-cons, binds-held}
 use Rattle.solve_round.specs.States.{StateHeld}
 use Rattle.solve_round.specs.declared.Place.{Place}
-use Rattle.types.specs.Puts.{binds-words as bound-words}
-use Rattle.types.specs.Sets.{HoldsCons, IsCons, Cons, con-some, one-set}
+use Rattle.types.proofs.Puts.{binds-words as bound-words}
+use Rattle.types.specs.Sets.{IsCons, Cons, con-some, one-set}
+use Rattle.types.proofs.OnSets.{HoldsCons}
 use Rattle.types.specs.Runs.{HoldsEach}
 use Rattle.solve_finish.specs.declared.Finish.TheVariants.{Solved as Bound, Unsolved}
 use Rattle.solve_finish.specs.Told.{others, boundRec, bounds, Copied, Accepted, Finished}

@@ -5,16 +5,18 @@ use Rattle.std.specs.Prelude as std
 use Rattle.std.specs.Option.{is_some}
 use Rattle.std.proofs.Math.Option.{Option}
 use Rattle.rules.specs.Refusals.{toldOption}
-use Rattle.laws.specs.Lists.{true≢false}
+use Rattle.laws.proofs.Lists.{true≢false}
 use Rattle.std.proofs.lemmas.List.Edits.{sets}
 use Rattle.rules.specs.Base.{keep, is_none, collect, sum_of}
 use Rattle.rules.specs.Solving.{boundOf}
 use Rattle.rules.specs.Trees.{Con, sizeCon}
 use Rattle.rules.specs.Writing.{words, writeCon}
-use Rattle.laws.specs.Size.{set-length}
+use Rattle.laws.proofs.Size.{set-length}
 use Rattle.types.specs.declared.writer.Writer.{Writer}
-use Rattle.types.specs.Sets.{alone, placed, placed-alone}
-use Rattle.types.specs.Written.{Writes, writes-none, writes-then}
+use Rattle.types.specs.Sets.{placed}
+use Rattle.types.proofs.OnSets.{alone, placed-alone}
+use Rattle.types.specs.Written.{Writes}
+use Rattle.types.proofs.Written.{writes-none, writes-then}
 use Rattle.solve_finish.specs.Told.{others, Copied}
 
 pub others-few : (cs : List (Con ℕ)) → sum_of sizeCon (others cs) ≤ sum_of sizeCon cs

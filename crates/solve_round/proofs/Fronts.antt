@@ -7,7 +7,7 @@ use Rattle.std.proofs.Math.Option.{some}
 use Rattle.rules.specs.Base.{Got, got, refused, bounded, sum_of}
 use Rattle.rules.specs.Rounds.{Step, bind, split, done, stuck, State, trySatisfy, sizeState, depthState}
 use Rattle.rules.specs.Trees.{Ty, Con, sizeCon}
-use Rattle.laws.specs.Lists.{clash}
+use Rattle.laws.proofs.Lists.{clash}
 use Rattle.records.specs.Good.{numbers}
 use Rattle.solve_step.specs.Stepped.{Stepped}
 use Rattle.solve_step.specs.declared.Step as code

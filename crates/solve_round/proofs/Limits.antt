@@ -8,9 +8,9 @@ use Rattle.rules.specs.Base.{got, refused, all, sum_of, max_of}
 use Rattle.rules.specs.Rounds.{State, limited, sizeState, depthState}
 use Rattle.rules.specs.Trees.{Ty, opened, basic, dim, fn, struct, list, Con, Binding, depth, depthCon, depthBinding, sizeCon, sizeBinding}
 use Rattle.rules.specs.declared.Refusal.TheVariants.{TooLarge}
-use Rattle.laws.specs.Lists.{true≢false}
-use Rattle.laws.specs.Nesting.{max_both}
-use Rattle.laws.specs.Sized.{sized-kept, sized-long, sized-deep}
+use Rattle.laws.proofs.Lists.{true≢false}
+use Rattle.laws.proofs.Nesting.{max_both}
+use Rattle.laws.proofs.Sized.{sized-kept, sized-long, sized-deep}
 use Rattle.records.specs.Good.{goodBinding, goodCon}
 use Rattle.types.specs.Binds.{Binds, IsBinds, one-binds}
 use Rattle.types.specs.Sets.{Cons, IsCons, one-set}

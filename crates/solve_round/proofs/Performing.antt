@@ -12,10 +12,10 @@ use Rattle.rules.specs.Trees.{Names, Ty, dim, Con, Binding, ◌≔◌, size, siz
 use Rattle.rules.specs.WellFormed.{goodBinding}
 use Rattle.rules.specs.Writing.{words, writeCon, writeBinding}
 use Rattle.rules.specs.declared.Refusal.{Refusal}
-use Rattle.laws.specs.KeepsGood.{rule-good}
-use Rattle.laws.specs.Lists.{and_both, is_all, each-length}
-use Rattle.laws.specs.Nesting.{most, rule-within}
-use Rattle.laws.specs.RuleCases.{
+use Rattle.laws.proofs.KeepsGood.{rule-good}
+use Rattle.laws.proofs.Lists.{and_both, is_all, each-length}
+use Rattle.laws.proofs.Nesting.{most, rule-within}
+use Rattle.laws.proofs.RuleCases.{
   Sides,
   Rule,
   none-applies,
@@ -33,12 +33,12 @@ use Rattle.laws.specs.RuleCases.{
   rule,
 }
 use Rattle.names.specs.declared.tables.NameTable.{NameTable}
-use Rattle.products.specs.Held.{law}
-use Rattle.records.specs.ByView.{size-pos}
+use Rattle.products.proofs.Held.{law}
+use Rattle.records.proofs.ByView.{size-pos}
 use Rattle.records.specs.Good as records
 use Rattle.records.specs.Good.{numbers, holding}
-use Rattle.replace.specs.Kept.{cons-weaker, binds-weaker}
-use Rattle.replace.specs.Written.{written-cons, written-binds}
+use Rattle.replace.proofs.Kept.{cons-weaker, binds-weaker}
+use Rattle.replace.proofs.Written.{written-cons, written-binds}
 use Rattle.solve_step.specs.Stepped.{Stepped}
 use Rattle.solve_step.specs.declared.Step as code
 use Rattle.solve_step.specs.declared.Step.TheVariants.{Bind, Split, Done, Stuck}

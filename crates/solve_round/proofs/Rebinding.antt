@@ -9,25 +9,27 @@ use Rattle.rules.specs.Rounds.{State, perform, sizeState}
 use Rattle.rules.specs.Trees.{Open, Ty, Con, Binding, ◌≔◌, sizeCon, sizeBinding, depthCon, depthBinding}
 use Rattle.rules.specs.Writing.{writeCon, writeBinding}
 use Rattle.rules.specs.declared.Refusal.{Refusal}
-use Rattle.laws.specs.Contents.{collect-append}
-use Rattle.laws.specs.Lists.{and_both}
+use Rattle.laws.proofs.Contents.{collect-append}
+use Rattle.laws.proofs.Lists.{and_both}
 use Rattle.laws.specs.NameTable.{Good}
-use Rattle.laws.specs.Nesting.{max_both, cons-deep, bindings-deep}
-use Rattle.laws.specs.Size.{set-length, bindings-length}
-use Rattle.records.specs.Cut.{cut, cut-length, short-con, short-binding, short-all}
+use Rattle.laws.proofs.Nesting.{max_both, cons-deep, bindings-deep}
+use Rattle.laws.proofs.Size.{set-length, bindings-length}
+use Rattle.records.specs.Cut.{cut}
+use Rattle.records.proofs.Cut.{cut-length, short-con, short-binding, short-all}
 use Rattle.records.specs.Good.{goodBinding, goodCon, goodTy, numbers, holding}
 use Rattle.replace.proofs.Walks.{stops, behind as after-records}
-use Rattle.replace.specs.Came.{Came}
-use Rattle.replace.specs.Kept.{binds-weaker, cons-kept, binds-kept}
+use Rattle.replace.proofs.Came.{Came}
+use Rattle.replace.proofs.Kept.{binds-weaker, cons-kept, binds-kept}
 use Rattle.replace.specs.Leaves.{Leaves}
-use Rattle.replace.specs.Runs.{looked-good}
+use Rattle.replace.proofs.Runs.{looked-good}
 use Rattle.replace.specs.Substitutions.{ALook, one-look}
 use Rattle.replace.specs.Well.{names, Listed, Lent}
 use Rattle.replace_table.specs.Filling.{Fills}
 use Rattle.types.specs.declared.Bindings.{Bindings}
 use Rattle.types.specs.declared.writer.Writer.{Writer}
 use Rattle.types.specs.Binds.{IsBinds}
-use Rattle.types.specs.Written.{last, Writes, writes-then}
+use Rattle.types.specs.Written.{last, Writes}
+use Rattle.types.proofs.Written.{writes-then}
 use Rattle.solve_round.specs.declared.Others.{Others}
 use Rattle.solve_round.specs.Parts.{keeps, Known, leaf, Made, others, rebinds, SoundOthers, BoundTo}
 use Rattle.solve_round.proofs.Limits.{all_both, depth-is, leaf-flat, size-is, sum_both}

@@ -8,13 +8,14 @@ use Rattle.std.proofs.Math.Seq.{append_snoc}
 use Rattle.rules.specs.Base.{Got, got, refused, ◌>>=◌, bounded, all, and_then, sum_of}
 use Rattle.rules.specs.Rounds.{Step, bind, split, done, stuck, State, trySatisfy, taken, firstStep, perform, performed, round, sizeState, depthState}
 use Rattle.rules.specs.Trees.{Con, Binding, sizeCon, depthCon}
-use Rattle.laws.specs.Lists.{and_both, every_append}
+use Rattle.laws.proofs.Lists.{and_both, every_append}
 use Rattle.records.specs.Good.{goodCon, numbers}
 use Rattle.records.specs.Holds.{HoldsCon}
 use Rattle.solve_step.specs.Stepped.{Stepped}
 use Rattle.solve_step.specs.declared.Step as code
 use Rattle.types.specs.declared.Bindings.{Bindings}
-use Rattle.types.specs.Sets.{con-some, HoldsCons, IsCons, placed}
+use Rattle.types.specs.Sets.{con-some, IsCons, placed}
+use Rattle.types.proofs.OnSets.{HoldsCons}
 use Rattle.types.specs.Runs.{HoldsEach}
 use Rattle.solve_round.specs.declared.Others.{Others}
 use Rattle.solve_round.specs.States.{Idle, SoundSet, SoundBinds}

@@ -12,16 +12,17 @@ use Rattle.std.proofs.Math.Decide.{dec_le}
 use Rattle.rules.specs.Refusals.{number_of}
 use Rattle.rules.specs.declared.Refusal.{Refusal}
 use Rattle.rules.specs.declared.Refusal.TheVariants.{TooLarge}
-use Rattle.laws.specs.Lists.{clash}
-use Rattle.laws.specs.Contents.{collect-append}
-use Rattle.laws.specs.Size.{set-length, bindings-length}
+use Rattle.laws.proofs.Lists.{clash}
+use Rattle.laws.proofs.Contents.{collect-append}
+use Rattle.laws.proofs.Size.{set-length, bindings-length}
 use Rattle.records.specs.Good.{goodBinding, goodCon}
-use Rattle.replace.specs.Kept.{cons-weaker, binds-weaker}
-use Rattle.replace.specs.Written.{Both, written-both}
+use Rattle.replace.proofs.Kept.{cons-weaker, binds-weaker}
+use Rattle.replace.proofs.Written.{Both, written-both}
 use Rattle.types.specs.declared.writer.Writer.{Writer}
 use Rattle.types.specs.Binds.{IsBinds}
 use Rattle.types.specs.Sets.{IsCons}
-use Rattle.types.specs.Written.{last, Writes, writes-then}
+use Rattle.types.specs.Written.{last, Writes}
+use Rattle.types.proofs.Written.{writes-then}
 use Rattle.solve_round.specs.declared.After.{After}
 use Rattle.solve_round.specs.declared.Ends.{Ends}
 use Rattle.solve_round.specs.declared.Others.{Others}

@@ -3,11 +3,11 @@ use Rattle.std.specs.Prelude.{◌≡◌, true, List, [], ◌∷◌, ℕ}
 use Rattle.std.proofs.Common.{arith, sym, subst}
 use Rattle.rules.specs.Trees.{◌↑◌, Product, Ty, dim, Con, equal, is_scalar}
 use Rattle.rules.specs.WellFormed.{goodTy, goodCon}
-use Rattle.laws.specs.GoodProducts.{GoodFactor, good-product}
+use Rattle.laws.proofs.GoodProducts.{GoodFactor, good-product}
 use Rattle.laws.specs.Lists.{and_left, and_right, Every}
-use Rattle.laws.specs.Ranges.{stored-good}
-use Rattle.laws.specs.Weaker.{ty-weaker}
-use Rattle.products.specs.Held.{law}
+use Rattle.laws.proofs.Ranges.{stored-good}
+use Rattle.laws.proofs.Weaker.{ty-weaker}
+use Rattle.products.proofs.Held.{law}
 use Rattle.records.specs.Good.{numbers, holding}
 use Rattle.replace.specs.Well.{GoodTy, GoodProduct}
 use Rattle.solve_step.specs.Parts.{GoodPowers}

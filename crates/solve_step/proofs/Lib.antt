@@ -1,7 +1,9 @@
 mod Conditions
 mod Others
+pub mod Parts
 mod Quotient
 mod Rules
 mod Short
 mod Sizes
+pub mod Stepped
 mod Written

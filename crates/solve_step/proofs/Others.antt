@@ -35,7 +35,7 @@ use Rattle.rules.specs.Trees.{
 }
 use Rattle.rules.specs.Views.{productOf, struct_of}
 use Rattle.rules.specs.Writing.{Rec, rec, head, twos, writeFactor, writeProduct, writeTy, writeCon, writeBinding}
-use Rattle.laws.specs.Lists.{each-length}
+use Rattle.laws.proofs.Lists.{each-length}
 use Rattle.laws.specs.RuleCases.{parts}
 use Rattle.exponents.specs.Answers.{expOf}
 use Rattle.exponents.specs.declared.Exponent.{Exponent}
@@ -49,7 +49,8 @@ use Rattle.types.specs.declared.Shape.{Shape}
 use Rattle.types.specs.declared.Shape.TheVariants as shape
 use Rattle.types.specs.declared.writer.Writer.{Writer}
 use Rattle.types.specs.Shapes.{whole}
-use Rattle.types.specs.Written.{Writes, writes-then, writes-none}
+use Rattle.types.specs.Written.{Writes}
+use Rattle.types.proofs.Written.{writes-then, writes-none}
 use Rattle.solve_step.specs.Applied.{Applied, FactorsLeft, FactorsPut}
 use Rattle.solve_step.specs.Parts.{freeVariable, freeName, isDimOf, boundTo}
 use Rattle.solve_step.specs.declared.Step.TheVariants.{Bind}

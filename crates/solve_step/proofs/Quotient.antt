@@ -9,15 +9,16 @@ use Rattle.rules.specs.Refusals.{number_of}
 use Rattle.rules.specs.Values.{ProductValue, productValue}
 use Rattle.rules.specs.Writing.{writeProduct}
 use Rattle.rules.specs.declared.Refusal.{Refusal}
-use Rattle.laws.specs.GoodProducts.{divide-good}
+use Rattle.laws.proofs.GoodProducts.{divide-good}
 use Rattle.products.specs.Told.{Tree, given, answer, productOf as treeIn}
-use Rattle.products.specs.Held.{Well, Sound, well-sound, law}
-use Rattle.products.specs.Places.{length-product}
+use Rattle.products.specs.Held.{Well, Sound}
+use Rattle.products.proofs.Held.{well-sound, law}
+use Rattle.products.proofs.Places.{length-product}
 use Rattle.products.specs.declared.Product as code
 use Rattle.records.specs.Cut.{fit}
 use Rattle.records.specs.Views.{recOf}
 use Rattle.records.specs.declared.View.TheVariants as view
-use Rattle.replace.specs.InProducts.{Fresh, fresh, taken, told-stop}
+use Rattle.replace.proofs.InProducts.{Fresh, fresh, taken, told-stop}
 use Rattle.replace.specs.Well as well
 use Rattle.replace.specs.Well.{Whole, GoodProduct}
 use Rattle.types.specs.declared.writer.Writer.{Writer}

@@ -39,12 +39,13 @@ use Rattle.rules.specs.Trees.{
 use Rattle.rules.specs.WellFormed.{goodProduct, goodTy, goodCon}
 use Rattle.rules.specs.Writing.{words}
 use Rattle.rules.specs.declared.Refusal.{Refusal}
-use Rattle.laws.specs.GoodProducts.{good-product, divide-good}
-use Rattle.laws.specs.Lists.{each-length, and_left, and_right}
-use Rattle.laws.specs.Size.{size-binding, set-length}
-use Rattle.laws.specs.RuleCases.{
+use Rattle.laws.proofs.GoodProducts.{good-product, divide-good}
+use Rattle.laws.specs.Lists.{and_left, and_right}
+use Rattle.laws.proofs.Lists.{each-length}
+use Rattle.laws.proofs.Size.{size-binding, set-length}
+use Rattle.laws.specs.RuleCases.{parts}
+use Rattle.laws.proofs.RuleCases.{
   Sides,
-  parts,
   rule,
   Rule,
   none-applies,
@@ -60,8 +61,8 @@ use Rattle.laws.specs.RuleCases.{
   first-factor,
   closed-struct,
 }
-use Rattle.products.specs.Held.{law}
-use Rattle.records.specs.ByView.{size-pos}
+use Rattle.products.proofs.Held.{law}
+use Rattle.records.proofs.ByView.{size-pos}
 use Rattle.records.specs.Good.{numbers, holding}
 use Rattle.types.specs.declared.writer.Writer.{Writer}
 use Rattle.rules.specs.Views.{asVar, asPower}

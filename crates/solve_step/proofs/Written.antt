@@ -9,14 +9,16 @@ use Rattle.rules.specs.Rounds.{asProducts}
 use Rattle.rules.specs.declared.Refusal.{Refusal}
 use Rattle.rules.specs.Trees.{var, Product, Ty, dim, Con, equal, is_scalar, ◌≔◌, size, sizeCon, sizeBinding}
 use Rattle.rules.specs.Writing.{rec, head, twos, writeFactor, writeProduct, writeTy, writeCon, writeBinding}
-use Rattle.records.specs.Cut.{fit, fits}
+use Rattle.records.specs.Cut.{fit}
+use Rattle.records.proofs.Cut.{fits}
 use Rattle.records.specs.Views.{recOf}
 use Rattle.records.specs.declared.Atom.TheVariants as atoms
 use Rattle.records.specs.declared.Open.TheVariants as opens
 use Rattle.records.specs.declared.View.{View}
 use Rattle.records.specs.declared.View.TheVariants as view
 use Rattle.types.specs.declared.writer.Writer.{Writer}
-use Rattle.types.specs.Written.{Writes, writes-then, writes-none}
+use Rattle.types.specs.Written.{Writes}
+use Rattle.types.proofs.Written.{writes-then, writes-none}
 use Rattle.solve_step.specs.declared.Step.{Step}
 use Rattle.solve_step.specs.declared.Step.TheVariants.{Bind, Split, Done, Stuck}
 use Rattle.solve_step.specs.Applied.{Applied}

@@ -1,15 +1,10 @@
 -- What the rules ask, and the steps that they lead to.
-use Rattle.std.specs.Prelude.{◌≡◌, true, List, [], ◌∷◌, ℕ, ◌≤◌, ◌<◌, length}
+use Rattle.std.specs.Prelude.{◌≡◌, true, List, [], ◌∷◌, ℕ}
 use Rattle.std.proofs.Math.Option.{Option, none, some}
 use Rattle.rules.specs.Base.{Got, got, ◌>>=◌}
 use Rattle.rules.specs.Exponents.{goodExp}
 use Rattle.rules.specs.Rounds as rules
 use Rattle.rules.specs.Trees.{var, quant, par, Atom, free, base, ◌↑◌, opened, dim, Con, isDim, is_scalar, Product}
-
--- places stay small
-pub record Fits (s : List ℕ) (out : ℕ) : Type 0 where
-  pub near : length s ≤ 100_000
-  pub small : out < 1_000_000_000
 
 -- a product that was made is a scalar
 abbrev pub asScalar : Got (Product ℕ) → Got (rules.Step ℕ)

@@ -8,7 +8,6 @@ use Rattle.rules.specs.Rounds as rules
 use Rattle.rules.specs.Trees.{Con, ◌≔◌, sizeCon, sizeBinding}
 use Rattle.rules.specs.WellFormed.{goodCon}
 use Rattle.rules.specs.Writing.{words, writeCon, writeBinding}
-use Rattle.records.specs.Holds.{HoldsCon}
 use Rattle.records.specs.Good.{numbers, holding}
 use Rattle.solve_step.specs.declared.Step.{Step}
 use Rattle.solve_step.specs.declared.Step.TheVariants.{Bind, Split, Done, Stuck}
@@ -16,10 +15,6 @@ use Rattle.solve_step.specs.declared.Step.TheVariants.{Bind, Split, Done, Stuck}
 -- a well formed constraint, without quantified variables
 abbrev pub GoodCon : List ℕ → List ℕ → Con ℕ → Type 0
 GoodCon pool table c = goodCon (numbers pool table) (holding pool table) 0 c ≡ true
-
-pub record HeldCon (pool table s : List ℕ) (c : Con ℕ) (at : ℕ) : Type 0 where
-  pub held : HoldsCon s c at
-  pub good : GoodCon pool table c
 
 -- a refusal with this number
 abbrev pub Refuses : Result Step Refusal → ℕ → Type 0

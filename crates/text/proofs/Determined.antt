@@ -4,7 +4,7 @@ use Rattle.std.proofs.Common.{sym, ◌∙◌, arith}
 use Rattle.std.proofs.Math.Path.{ap}
 use Rattle.rules.specs.Calls.{Listed}
 use Rattle.rules.specs.Numbers.{refusalIn, number, refusalRead}
-use Rattle.laws.specs.Numbers.{answer-in, number-injective, told-injective}
+use Rattle.laws.proofs.Numbers.{answer-in, number-injective, told-injective}
 use Rattle.rules.specs.TextReading.{TextRead}
 use Rattle.text_sheet.specs.Given.{toldSheet, readAs}
 use Rattle.text_sheet.specs.declared.Read.{Read}

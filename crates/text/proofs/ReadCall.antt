@@ -8,9 +8,9 @@ use Rattle.rules.specs.Names.{lentTable}
 use Rattle.rules.specs.Calls.{lent, workAfter}
 use Rattle.rules.specs.TextReading.{sheetGiven, readTextCall}
 use Rattle.rules.specs.declared.Refusal.TheVariants.{ShortBuffer}
-use Rattle.laws.specs.Checks.{need-passed}
+use Rattle.laws.proofs.Checks.{need-passed}
 use Rattle.laws.specs.Lists.{and_left, and_right}
-use Rattle.records_buffers.specs.Lent.{Long}
+use Rattle.records_buffers.proofs.OnLent.{Long}
 use Rattle.text_sheet.specs.Loop.{Sheet}
 use Rattle.text_sheet.specs.Given.{readAs, Answers}
 

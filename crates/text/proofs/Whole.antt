@@ -13,13 +13,14 @@ use Rattle.rules.specs.Names.{Bytes, table_of, numbersOf, is_held, lentTable}
 use Rattle.rules.specs.Trees.{Con, sizeCon}
 use Rattle.rules.specs.WellFormed.{goodCon}
 use Rattle.rules.specs.Calls.{listing, resultAfter, over, aloneGiven, shortLists, tableKept, setGiven, setCall}
-use Rattle.laws.specs.Checks.{passed, need-passed}
-use Rattle.laws.specs.Lists.{clash, and_left}
+use Rattle.laws.proofs.Checks.{passed, need-passed}
+use Rattle.laws.specs.Lists.{and_left}
+use Rattle.laws.proofs.Lists.{clash}
 use Rattle.laws.specs.NameTable.{Good}
 use Rattle.records.specs.Found.{Words32}
 use Rattle.records.specs.Good.{Chain, GoodCon}
-use Rattle.records.specs.Whole.{entry-good, set_is}
-use Rattle.text_laws.specs.Lengths.{set-fits}
+use Rattle.records.proofs.Whole.{entry-good, set_is}
+use Rattle.text_laws.proofs.Lengths.{set-fits}
 use Rattle.rules.specs.TextWriting.{setText, text_of, writeTextCall, namesIn}
 use Rattle.text_write.specs.Rows.{LinesAt}
 use Rattle.text_spell.specs.Sinks.{Place, Puts}

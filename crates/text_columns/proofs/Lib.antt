@@ -1,1 +1,7 @@
+pub mod Columns
+pub mod Cut
+pub mod Deep
+pub mod Left
 mod Sound
+pub mod Told
+pub mod Upto

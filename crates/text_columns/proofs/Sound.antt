@@ -20,20 +20,24 @@ use Rattle.rules.specs.Grammar.{TysAt, nilAt, consAt, FieldsAt, noneAt, field_at
 use Rattle.rules.specs.TextReading.{Sofar, Told, told, refusedAt, Step, onward, give, placed, counted, enterName, entered, named, openNamed, atomNamed}
 use Rattle.rules.specs.TextReading.{powerOf, namesSofar, multiplied, factorsOf, productOf, rises, ty_of, tys_of, fields_of, conOf, meant, lineRead}
 use Rattle.rules.specs.TextReading.{Sheet, sheet, refusedIn, with, nextLine, lines_read, unread, sheetRead, ◌>>=◌, ◌>>◌}
-use Rattle.laws.specs.ByteOrder.{numbered-lawful, atom-lawful}
-use Rattle.laws.specs.Gcd.{is-gcd, coprime}
-use Rattle.laws.specs.GoodProducts.{goodAtom, GoodFactor, good-product, product-good, multiply_good}
-use Rattle.laws.specs.Lists.{Every, and_left, and_right, and_both}
-use Rattle.laws.specs.NameTable.{Good, good-laid, length-names, held-is}
+use Rattle.laws.specs.ByteOrder.{numbered-lawful}
+use Rattle.laws.proofs.ByteOrder.{atom-lawful}
+use Rattle.laws.proofs.Gcd.{is-gcd, coprime}
+use Rattle.laws.specs.GoodProducts.{goodAtom}
+use Rattle.laws.proofs.GoodProducts.{GoodFactor, good-product, product-good, multiply_good}
+use Rattle.laws.specs.Lists.{Every, and_left, and_right}
+use Rattle.laws.proofs.Lists.{and_both}
+use Rattle.laws.specs.NameTable.{Good, good-laid, length-names}
+use Rattle.laws.proofs.NameTable.{held-is}
 use Rattle.laws.specs.Order.{Lawful}
-use Rattle.laws.specs.Ranges.{is-good, neg-good, is-stored}
-use Rattle.laws.specs.ReadLists.{read_set, words_back}
+use Rattle.laws.proofs.Ranges.{is-good, neg-good, is-stored}
+use Rattle.laws.proofs.ReadLists.{read_set, words_back}
 use Rattle.laws.specs.Sorted.{Sorted, Before}
-use Rattle.laws.specs.Value.{Gives, gives, refuses, allowed}
-use Rattle.text_columns.specs.Columns.{Ends, OpenIn, AtomIn, FactorIn, DimIn, TyIn, TysIn, FieldsIn, ConIn, LineIn, line-in}
-use Rattle.text_laws.specs.Entry.{entry}
-use Rattle.text_columns.specs.Left.{read-writable}
-use Rattle.text_columns.specs.Told.{withRecords, withName}
+use Rattle.laws.proofs.Value.{Gives, gives, refuses, allowed}
+use Rattle.text_columns.proofs.Columns.{Ends, OpenIn, AtomIn, FactorIn, DimIn, TyIn, TysIn, FieldsIn, ConIn, LineIn, line-in}
+use Rattle.text_laws.proofs.Entry.{entry}
+use Rattle.text_columns.proofs.Left.{read-writable}
+use Rattle.text_columns.proofs.Told.{withRecords, withName}
 
 -- ══ Later on more names are held ══
 

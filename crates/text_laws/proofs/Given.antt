@@ -25,14 +25,17 @@ use Rattle.rules.specs.Reading.{
   readFactors,
 }
 use Rattle.rules.specs.Calls.{shortLists, listGiven, tableKept, setGiven, aloneGiven, setCall}
-use Rattle.laws.specs.Lists.{Every, and_left, and_right, bound-step, some≢none}
-use Rattle.laws.specs.Given.{or-some}
+use Rattle.laws.specs.Lists.{Every, and_left, and_right}
+use Rattle.laws.proofs.Lists.{bound-step, some≢none}
+use Rattle.laws.proofs.Given.{or-some}
 use Rattle.laws.specs.NameTable.{Good}
-use Rattle.laws.specs.Checks.{need-passed, first-passed, next-passed, passed}
-use Rattle.laws.specs.Written.{Reads, nothing, given, then, picked, plain, lasting-read}
-use Rattle.laws.specs.ReadLists.{con-read, all_read, Words, taken}
-use Rattle.laws.specs.Depth.{depth-read}
-use Rattle.laws.specs.Size.{words-length, set-length}
+use Rattle.laws.proofs.Checks.{need-passed, first-passed, next-passed, passed}
+use Rattle.laws.specs.Written.{Reads, nothing, given, picked, plain, lasting-read}
+use Rattle.laws.proofs.Written.{then}
+use Rattle.laws.specs.ReadLists.{Words}
+use Rattle.laws.proofs.ReadLists.{con-read, all_read, taken}
+use Rattle.laws.proofs.Depth.{depth-read}
+use Rattle.laws.proofs.Size.{words-length, set-length}
 
 -- ══ Constraints that were read are nested at most 64 deep ══
 

@@ -1,3 +1,9 @@
+pub mod Entry
 pub mod Given
+pub mod Lengths
 pub mod LinesBack
+pub mod Meanings
 pub mod Promise
+pub mod ReadBack
+pub mod Spelling
+pub mod TypesBack

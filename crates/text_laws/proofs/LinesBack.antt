@@ -61,10 +61,11 @@ use Rattle.rules.specs.Grammar.{
 use Rattle.rules.specs.Grammar as G
 use Rattle.rules.specs.TextReading.{told, meant, lineRead}
 use Rattle.rules.specs.TextWriting.{nameText, openText, dimensionText, tyText, conText}
-use Rattle.text_laws.specs.Spelling.{Finds, found, then, IsByte}
-use Rattle.text_laws.specs.Meanings
-use Rattle.text_laws.specs.ReadBack.{Stops, as', blank-type, name-found, dimension-found}
-use Rattle.text_laws.specs.TypesBack.{paren-stops, ty-found, begins-dimension}
+use Rattle.text_laws.specs.Spelling.{IsByte}
+use Rattle.text_laws.proofs.Spelling.{Finds, found, then}
+use Rattle.text_laws.proofs.Meanings as Meanings
+use Rattle.text_laws.proofs.ReadBack.{Stops, as', blank-type, name-found, dimension-found}
+use Rattle.text_laws.proofs.TypesBack.{paren-stops, ty-found, begins-dimension}
 
 -- ══ What follows a type in a line ══
 

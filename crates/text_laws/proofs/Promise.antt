@@ -12,7 +12,8 @@ use Rattle.rules.specs.Trees.{Con, sizeCon}
 use Rattle.rules.specs.Names.{Bytes, table_of, numbersOf, is_held, lentTable}
 use Rattle.rules.specs.WellFormed.{goodCon}
 use Rattle.rules.specs.Calls.{lent, lentResult, lentWork, shortLists, tableKept, setCall, over, resultAfter, workAfter, listing}
-use Rattle.laws.specs.Lists.{Every, every-left, every-right, and_left, and_right}
+use Rattle.laws.specs.Lists.{Every, and_left, and_right}
+use Rattle.laws.proofs.Lists.{every-left, every-right}
 use Rattle.laws.specs.NameTable.{Good}
 use Rattle.laws.specs.ReadLists.{Words}
 use Rattle.rules.specs.Grammar.{lines_of, inFront, skipFrom, signsAt, line}
@@ -39,10 +40,11 @@ use Rattle.rules.specs.TextReading.{
 }
 use Rattle.rules.specs.TextWriting.{conText, setText, namesIn, text_of, writeTextCall}
 use Rattle.text_laws.specs.Spelling.{IsByte}
-use Rattle.text_laws.specs.Meanings
+use Rattle.text_laws.proofs.Meanings as Meanings
 use Rattle.text_laws.specs.Claims.{BackAgain, Unchanged, joined, RefusedText}
 use Rattle.text_laws.proofs.LinesBack.{line-back}
-use Rattle.text_laws.specs.Lengths.{NotFeed, con-flat, set-fits}
+use Rattle.text_laws.specs.Lengths.{NotFeed}
+use Rattle.text_laws.proofs.Lengths.{con-flat, set-fits}
 use Rattle.text_laws.proofs.Given.{Deep, Constraints, constraints, SetGiven, set_given}
 
 -- ══ Written, and read back ══

@@ -1,3 +1,2 @@
-pub mod Shapes
 pub mod Statements
 pub mod Answers

@@ -1,14 +1,12 @@
 -- How a sheet stands: records counted, and a record written before its parts.
 use Rattle.text_grammar.specs.declared.inner.Point.TheVariants as point
 use Rattle.text_grammar.specs.declared.inner.Point.{Point}
-use Rattle.std.specs.Prelude.{◌≡◌, refl, Bool, true, false, List, [], ◌∷◌, ℕ, ◌+◌, ◌-◌, ◌*◌, ◌≤◌, ◌<◌, leb, Result, Err, Ok}
-use Rattle.std.proofs.Common.{sym, ap, ◌∙◌, arith, leb-true, le-leb}
-use Rattle.std.proofs.lemmas.Bool.{lt-leb}
+use Rattle.std.specs.Prelude.{◌≡◌, Bool, true, false, List, [], ◌∷◌, ℕ, ◌+◌, ◌-◌, ◌*◌, ◌≤◌, leb, Result, Err, Ok}
+use Rattle.std.proofs.Common.{arith}
 use Rattle.std.proofs.lemmas.List.Edits.{sets}
 use Rattle.rules.specs.Writing.{words}
 use Rattle.rules.specs.declared.Refusal.{Refusal}
 use Rattle.rules.specs.declared.Refusal.TheVariants.{TooLarge}
-use Rattle.records.specs.Cut.{fit, fits}
 use Rattle.records.specs.Views.{recOf}
 use Rattle.records.specs.declared.View.{View}
 use Rattle.text_names.specs.declared.inner.At.{At}
@@ -26,16 +24,6 @@ Refused r c = Err (record { why = r; at = c })
 
 pub not-both : {s : Stand} {r : Refusal} {c k n : ℕ} → s ≡ Refused r c → s ≡ Going k n → ⊥
 not-both e f = let z : ◌≡◌ {A = ℕ} 0 1 = cc in omega arith
-
-pub same-going : {s : Stand} {k n i j : ℕ} → s ≡ Going k n → s ≡ Going i j → (k ≡ i) × (n ≡ j)
-same-going {s} {k} {n} {i} {j} e f =
-    let p : ◌≡◌ {A = Tally} (record { names = k; records = n }) (record { names = i; records = j }) = cc in
-    (ap (λ (t : Tally). t.names) p, ap (λ (t : Tally). t.records) p)
-
-pub same-refused : {s : Stand} {r r' : Refusal} {c c' : ℕ} → s ≡ Refused r c → s ≡ Refused r' c' → (r ≡ r') × (c ≡ c')
-same-refused {s} {r} {r'} {c} {c'} e f =
-    let p : ◌≡◌ {A = At} (record { why = r; at = c }) (record { why = r'; at = c' }) = cc in
-    (ap (λ (a : At). a.why) p, ap (λ (a : At). a.at) p)
 
 abbrev pub place_of : Point → ℕ
 place_of (point.At i) = i
@@ -55,16 +43,6 @@ abbrev pub countOf : ℕ → ℕ → Stand → Stand
 countOf k at (Ok tally) = countIf (leb (tally.records + k) 2048) at tally.names (tally.records + k)
 countOf k at (Err stop) = Refused stop.why stop.at
 
-module _ {s : Stand} (k at : ℕ) where
-  pub count_fits : {f n : ℕ} → s ≡ Going f n → n + k ≤ 2048 → Going f (n + k) ≡ countOf k at s
-  count_fits {f} {n} e h = rw (e, le-leb (n + k) 2048 h)
-
-  pub count-over : {f n : ℕ} → s ≡ Going f n → 2048 < n + k → Refused TooLarge at ≡ countOf k at s
-  count-over {f} {n} e h = rw (e, lt-leb (n + k) 2048 h)
-
-  pub count-stays : {r : Refusal} {c : ℕ} → s ≡ Refused r c → Refused r c ≡ countOf k at s
-  count-stays e = rw e
-
 -- r has at least the records of s, and not too many
 abbrev pub Above : Stand → Stand → Type 0
 Above s r = (k n i m : ℕ) → s ≡ Going k n → r ≡ Going i m → (n ≤ m) × (m ≤ 2048)
@@ -74,25 +52,3 @@ abbrev pub headPut : View → Stand → Stand → List ℕ → List ℕ
 headPut v (Ok tally) (Ok tally') d = sets d (tally.records * 4) (words (recOf v (tally'.records - tally.records) ∷ []))
 headPut v (Ok tally) (Err stop) d = d
 headPut v (Err stop) s d = d
-
-module _ (v : View) (s r : Stand) (d : List ℕ) where
-  pub head-put : {d' : List ℕ} {k n i m : ℕ} → s ≡ Going k n → r ≡ Going i m → m ≤ 2048 → d' ≡ sets d (n * 4) (words (recOf v (fit (m - n)) ∷ []))
-      → d' ≡ headPut v s r d
-  head-put {d'} {k} {n} {i} {m} e f h g = rw (e, f) (g ∙ ap (λ (l : ℕ). sets d (n * 4) (words (recOf v l ∷ []))) (fits (m - n) (omega arith)))
-
-  pub head-none : {k n c : ℕ} {w : Refusal} → s ≡ Going k n → r ≡ Refused w c → d ≡ headPut v s r d
-  head-none e f = rw (e, f)
-
-  pub head-stays : {w : Refusal} {c : ℕ} → s ≡ Refused w c → d ≡ headPut v s r d
-  head-stays e = rw e
-
--- what was counted lies above
-pub count-above : {s s₁ : Stand} (k at : ℕ) → Few s → s₁ ≡ countOf k at s → Above s s₁
-count-above {s} {s₁} k at few e f n i m p q = go (leb (n + k) 2048) refl
-  where
-    h : countIf (leb (n + k) 2048) at f (n + k) ≡ Going i m
-    h = sym (e ∙ ap (countOf k at) p) ∙ q
-
-    go : (b : Bool) → leb (n + k) 2048 ≡ b → (n ≤ m) × (m ≤ 2048)
-    go true t = let w = same-going (sym (rw t at h)) refl in (omega (arith, w.1), omega (arith, w.1, leb-true (n + k) 2048 t))
-    go false t = absurd (not-both refl (rw t at h))

@@ -31,10 +31,11 @@ use Rattle.std.specs.Prelude.{Ok, ℤ, false}
 use Rattle.rules.specs.Base.{is_yes}
 use Rattle.rules.specs.Exponents.{frac, one, Exp-dec}
 use Rattle.rules.specs.Grammar.{ascii}
-use Rattle.text_spell.specs.Sinks.{Place, Puts, nothing}
+use Rattle.text_spell.specs.Sinks.{Place, Puts}
+use Rattle.text_spell.proofs.Sinks.{nothing}
 use Rattle.rules.specs.Base.{collect}
 use Rattle.rules.specs.Names.{Bytes}
-use Rattle.laws.specs.Contents.{collect-append}
+use Rattle.laws.proofs.Contents.{collect-append}
 use Rattle.rules.specs.Writing.{signed, by_sign}
 use Rattle.rules.specs.TextWriting.{escaped, nameText, decimal, numeratorText, denominatorText, powerText}
 

@@ -31,7 +31,7 @@ fn put_comma<S: Sink>(first: bool, to: &mut S) -> Result<(), S::Error>
 }
 
 /// Puts a bracket if there are any parts.
-#[tactic(auto, using(crate::specs::Parts::brackets))]
+#[tactic(auto, using(crate::proofs::Parts::brackets))]
 fn put_if<S: Sink>(n: u32, b: u8, to: &mut S) -> Result<(), S::Error>
     ensures { Puts (S.place to.old) (bracket n b) result (S.place to.new) }
 {

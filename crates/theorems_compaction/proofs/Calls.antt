@@ -10,8 +10,10 @@ use Rattle.rules.specs.Batches.{cutSets}
 use Rattle.rules.specs.Names.{Bytes, Table, table_of, names_of, tableGiven}
 use Rattle.rules.specs.Offices.{Word, readBack, ReadAlike}
 use Rattle.rules.specs.Compaction.{Compacted, keeps, renumbered, eachGiven, compactChecks, compactCall, compactIf, namesIt, CompactedAlike}
-use Rattle.laws.specs.Lists.{Every, clash}
-use Rattle.laws.specs.NameTable.{Good, given-good, good-distinct}
+use Rattle.laws.specs.Lists.{Every}
+use Rattle.laws.proofs.Lists.{clash}
+use Rattle.laws.specs.NameTable.{Good, good-distinct}
+use Rattle.laws.proofs.NameTable.{given-good}
 use Rattle.laws.specs.ReadLists.{Words}
 use Rattle.theorems_offices.proofs.Both.{hence, equal-answers, same-both}
 use Rattle.theorems_offices.proofs.Batches.{take-alike, drop-alike}

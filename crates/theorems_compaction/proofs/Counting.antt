@@ -7,8 +7,11 @@ use mathlib.Core.List.{List, [], ◌∷◌}
 use Prim.Native.Nat.{ℕ, suc}
 use Rattle.rules.specs.Base.{any, keep}
 use Rattle.rules.specs.Names.{Bytes, sameBytes, distinct}
-use Rattle.laws.specs.Lists.{true≢false, and_left, and_right, and_both, not-true}
-use Rattle.laws.specs.NameTable.{same-yes, same-no, same-is}
+use Rattle.std.proofs.lemmas.Bool.{not-true}
+use Rattle.laws.specs.Lists.{and_left, and_right}
+use Rattle.laws.proofs.Lists.{true≢false, and_both}
+use Rattle.laws.specs.NameTable.{same-yes}
+use Rattle.laws.proofs.NameTable.{same-no, same-is}
 
 abbrev pub Among : Bytes → List Bytes → Bool
 Among m ns = any (sameBytes m) ns

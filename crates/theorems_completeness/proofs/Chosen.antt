@@ -25,10 +25,12 @@ use Rattle.rules.specs.Choices.{
   chosenFor,
   comesTo,
 }
-use Rattle.laws.specs.Order.{Lawful, self}
-use Rattle.laws.specs.Lists.{some≢none, and_left, and_right, and_both, no-is, yes-is, Every, every_append}
-use Rattle.laws.specs.Fractions.{
-  Lowest,
+use Rattle.laws.specs.Order.{Lawful}
+use Rattle.laws.proofs.Order.{self}
+use Rattle.laws.specs.Lists.{and_left, and_right, Every}
+use Rattle.laws.proofs.Lists.{some≢none, and_both, no-is, yes-is, every_append}
+use Rattle.laws.specs.Fractions.{Lowest}
+use Rattle.laws.proofs.Fractions.{
   lowest-terms,
   terms-lowest,
   coprime-terms,
@@ -46,7 +48,8 @@ use Rattle.laws.specs.Fractions.{
 }
 use Rattle.laws.specs.Powers.{Sound}
 use Rattle.laws.specs.Sorted.{Before}
-use Rattle.laws.specs.GoodProducts.{goodAtom, good-proper}
+use Rattle.laws.specs.GoodProducts.{goodAtom}
+use Rattle.laws.proofs.GoodProducts.{good-proper}
 use Rattle.theorems_completeness.proofs.Worth.{worth}
 use Rattle.theorems_completeness.proofs.Products.{Good}
 

@@ -10,8 +10,10 @@ use Rattle.rules.specs.Base.{is_yes, all}
 use Rattle.rules.specs.Trees.{var, free, Product, Names, Ty, dim, Con, Binding, ◌≔◌, orderAtom, opens}
 use Rattle.rules.specs.Choices.{Fixed, Dimension, rationalPart, Choice, Rational, power, Same, chosenFor, comesTo, sideComesTo, MakesWideTrue, completedWide}
 use Rattle.laws.specs.Order.{Lawful}
-use Rattle.laws.specs.Lists.{in_head, yes-is, no-is, Every}
-use Rattle.laws.specs.GoodProducts.{goodAtom, good-proper}
+use Rattle.laws.specs.Lists.{in_head, Every}
+use Rattle.laws.proofs.Lists.{yes-is, no-is}
+use Rattle.laws.specs.GoodProducts.{goodAtom}
+use Rattle.laws.proofs.GoodProducts.{good-proper}
 use Rattle.theorems_completeness.specs.Claims.{◌⇔◌}
 use Rattle.theorems_completeness.proofs.Chosen.{Reduced, measured, good-worth, all-reduced, reduced-all, comes-reduced}
 use Rattle.std.proofs.Math.Path.{ap₂}

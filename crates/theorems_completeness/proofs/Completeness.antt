@@ -11,7 +11,8 @@ use Rattle.rules.specs.Names.{table_of, numbersOf}
 use Rattle.rules.specs.Solving.{Answer, accepted, remaining, stopped, solve}
 use Rattle.rules.specs.Calls.{setGiven, solved, unsolved, solveCall}
 use Rattle.rules.specs.Choices.{Choice, Rational, dimensional, Choosing, wide, MakesAllWideTrue, ChoosingWide, completedWide}
-use Rattle.laws.specs.Lists.{all-is, is_all}
+use Rattle.laws.specs.Lists.{all-is}
+use Rattle.laws.proofs.Lists.{is_all}
 use Rattle.laws.specs.Order.{Lawful, Tells}
 use Rattle.theorems_completeness.specs.Claims.{◌⇔◌, DimensionSet, AllChoices, Five, Stopped, Complete, WideSet, AllWideChoices, WideComplete}
 use Rattle.theorems_completeness.specs.Theorems.{WideDecided, SameThere, Within, MakesWideOnesTrue}

@@ -39,8 +39,8 @@ use Rattle.rules.specs.Choices.{
   ChoosingWide,
   completedWide,
 }
-use Rattle.laws.specs.Gcd.{is-gcd}
-use Rattle.laws.specs.Fractions.{coprime-terms}
+use Rattle.laws.proofs.Gcd.{is-gcd}
+use Rattle.laws.proofs.Fractions.{coprime-terms}
 use Rattle.laws.specs.Lists.{in_head, Every}
 use Rattle.laws.specs.ByteOrder.{numbered-lawful}
 use Rattle.laws.specs.NameTable.{Good}

@@ -11,12 +11,14 @@ use Rattle.rules.specs.Trees.{Open, var, quant, par, free, base, Factor, ◌↑�
 use Rattle.rules.specs.Replacing.{Look, asProduct, replaceFactors, replaceProduct, replaceDim, bindings}
 use Rattle.rules.specs.Rounds.{Step, bind, split, done, stuck, State, orTry, otherSide, trySatisfy, taken, firstStep, sizeState, depthState, limited}
 use Rattle.laws.specs.Order.{Lawful, Tells}
-use Rattle.laws.specs.Lists.{got≢refused, All, in_head}
-use Rattle.laws.specs.Exact.{OfLimits, Below, times_below, multiply-below, divide-below, raise-below, sized-below}
-use Rattle.laws.specs.ExactProducts.{multiply-exact, divide-exact, raise-exact}
+use Rattle.laws.specs.Lists.{All, in_head}
+use Rattle.laws.proofs.Lists.{got≢refused}
+use Rattle.laws.specs.Exact.{OfLimits, Below}
+use Rattle.laws.proofs.Exact.{times_below, multiply-below, divide-below, raise-below, sized-below}
+use Rattle.laws.proofs.ExactProducts.{multiply-exact, divide-exact, raise-exact}
 use Rattle.laws.specs.GoodProducts.{goodAtom}
-use Rattle.laws.specs.Refusing.{Refuses, given as fine, refusing, onward}
-use Rattle.laws.specs.Occurs.{one-bound}
+use Rattle.laws.proofs.Refusing.{Refuses, given as fine, refusing, onward}
+use Rattle.laws.proofs.Occurs.{one-bound}
 
 -- with 7 or 8
 abbrev pub Limited : {A : Type 0} → Got A → Type 0

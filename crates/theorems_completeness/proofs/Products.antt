@@ -12,13 +12,16 @@ use Rattle.rules.specs.Replacing.{Look, asProduct, replaceFactors, replaceProduc
 use Rattle.rules.specs.WellFormed.{goodProduct}
 use Rattle.laws.specs.Order.{Lawful, Tells}
 use Rattle.laws.specs.Lists.{Every}
-use Rattle.laws.specs.Value.{Gives, gives, next, weaken, together, its_own}
-use Rattle.laws.specs.Fractions.{Lowest, neg-lowest, mul-in-lowest, plus_comm, plus_assoc, plus-nought, plus-neg}
-use Rattle.laws.specs.ExactProducts.{multiply-value, divide-value, raise-value}
-use Rattle.laws.specs.Powers.{Proper, inverse-proper}
-use Rattle.laws.specs.GoodProducts.{goodAtom, GoodFactor, good-product, product-good, good-proper, multiply_good, divide-good, raise-good}
-use Rattle.laws.specs.Ranges.{stored-good, good-lowest}
-use Rattle.laws.specs.Occurs.{one-bound}
+use Rattle.laws.proofs.Value.{Gives, gives, next, weaken, together, its_own}
+use Rattle.laws.specs.Fractions.{Lowest}
+use Rattle.laws.proofs.Fractions.{neg-lowest, mul-in-lowest, plus_comm, plus_assoc, plus-nought, plus-neg}
+use Rattle.laws.proofs.ExactProducts.{multiply-value, divide-value, raise-value}
+use Rattle.laws.specs.Powers.{Proper}
+use Rattle.laws.proofs.Powers.{inverse-proper}
+use Rattle.laws.specs.GoodProducts.{goodAtom}
+use Rattle.laws.proofs.GoodProducts.{GoodFactor, good-product, product-good, good-proper, multiply_good, divide-good, raise-good}
+use Rattle.laws.proofs.Ranges.{stored-good, good-lowest}
+use Rattle.laws.proofs.Occurs.{one-bound}
 use Rattle.theorems_completeness.specs.Claims.{◌⇔◌}
 use Rattle.theorems_completeness.proofs.Worth.{same-difference, no_difference, worth, worth-lowest, worth-merge, worth-raise, worth-inverse}
 use Rattle.std.specs.Prelude.{ℕ}
@@ -28,12 +31,12 @@ use Rattle.rules.specs.Exponents.{inverted}
 use Rattle.rules.specs.Trees.{Factor}
 use Rattle.rules.specs.Rounds.{otherSide}
 use Rattle.rules.specs.WellFormed.{atomOf}
-use Rattle.laws.specs.Order.{self}
-use Rattle.laws.specs.Fractions.{neg-neg, inverted-lowest, mul-inverted, mul-assoc', mul-one'}
-use Rattle.laws.specs.ExactSolve.{others_below}
-use Rattle.laws.specs.Evaluation.{rest-proper, other-raised}
-use Rattle.laws.specs.KeepsGood.{has-inverse}
-use Rattle.laws.specs.Occurs.{OnFactor}
+use Rattle.laws.proofs.Order.{self}
+use Rattle.laws.proofs.Fractions.{neg-neg, inverted-lowest, mul-inverted, mul-assoc', mul-one'}
+use Rattle.laws.proofs.ExactSolve.{others_below}
+use Rattle.laws.proofs.Evaluation.{rest-proper, other-raised}
+use Rattle.laws.proofs.KeepsGood.{has-inverse}
+use Rattle.laws.proofs.Occurs.{OnFactor}
 
 module _ {N : Type 0} (ν : Names N) (held : N → Bool) where
   abbrev pub Good : Product N → Type 0

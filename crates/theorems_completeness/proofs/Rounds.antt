@@ -36,35 +36,22 @@ use Rattle.rules.specs.Replacing.{Look, replaceTy, replaceCon, replaceBinding, b
 use Rattle.rules.specs.Rounds.{Step, bind, split, done, stuck, State, firstRules, dimensions, by_kind, trySatisfy, firstStep, perform, performed, round}
 use Rattle.rules.specs.WellFormed.{goodProduct, goodTy, goodCon}
 use Rattle.laws.specs.Order.{Lawful, Tells}
-use Rattle.laws.specs.Lists.{
-  true≢false,
-  and_left,
-  and_right,
-  and_both,
-  All,
-  all_nil,
-  all_cons,
-  all_append,
-  in_head,
-  one-step,
-  Every,
-  every-as,
-  Came,
-  each-came,
-  each-went,
-}
+use Rattle.laws.specs.Lists.{and_left, and_right, All, all_nil, all_cons, in_head, Every}
+use Rattle.laws.proofs.Lists.{true≢false, and_both, all_append, one-step, every-as, Came, each-came, each-went}
 use Rattle.laws.specs.Fractions.{Lowest}
-use Rattle.laws.specs.ExactProducts.{mergeE, divide-value, divide-exact}
-use Rattle.laws.specs.ExactSolve.{con-below}
-use Rattle.laws.specs.Occurs.{OnFactor, each_opens, opens-each, merge_on, inverse-on, other-opens, ty-on, con-on}
-use Rattle.laws.specs.Exact.{divide-below, ty_below}
-use Rattle.laws.specs.GoodProducts.{goodAtom, good-product}
-use Rattle.laws.specs.KeepsGood.{GoodBind, rule-good, other-side-good}
-use Rattle.laws.specs.Refusing.{given as fine, onward}
-use Rattle.laws.specs.RuleCases.{
+use Rattle.laws.specs.ExactProducts.{mergeE}
+use Rattle.laws.proofs.ExactProducts.{divide-value, divide-exact}
+use Rattle.laws.proofs.ExactSolve.{con-below}
+use Rattle.laws.proofs.Occurs.{OnFactor, each_opens, opens-each, merge_on, inverse-on, other-opens, ty-on, con-on}
+use Rattle.laws.proofs.Exact.{divide-below, ty_below}
+use Rattle.laws.specs.GoodProducts.{goodAtom}
+use Rattle.laws.proofs.GoodProducts.{good-product}
+use Rattle.laws.proofs.KeepsGood.{GoodBind, rule-good, other-side-good}
+use Rattle.laws.proofs.Refusing.{given as fine, onward}
+use Rattle.laws.specs.RuleCases.{After}
+use Rattle.laws.proofs.RuleCases.{
   Reads,
   Sides,
-  After,
   Rule,
   rule,
   part_of,
@@ -82,7 +69,7 @@ use Rattle.laws.specs.RuleCases.{
   first-factor,
   closed-struct,
 }
-use Rattle.laws.specs.Turns.{Found, found, Bound, Split, Taken, Turn, bound, parted, dropped}
+use Rattle.laws.proofs.Turns.{Found, found, Bound, Split, Taken, Turn, bound, parted, dropped}
 use Rattle.theorems_completeness.specs.Claims.{◌⇔◌}
 use Rattle.theorems_completeness.proofs.Worth.{same-difference, no_difference, worth, worth-just}
 use Rattle.theorems_completeness.proofs.Products.{Good, worth-low, divide-worth, first-right, alone}

@@ -32,13 +32,16 @@ use Rattle.rules.specs.Rounds.{
 use Rattle.rules.specs.Solving.{Answer, accepted, remaining, stopped, boundOf, finished, finish, after, run, solve}
 use Rattle.rules.specs.Choices.{Fixed, Choice, Rational}
 use Rattle.laws.specs.Order.{Lawful, Tells}
-use Rattle.laws.specs.ByteOrder.{atom-lawful}
-use Rattle.laws.specs.Lists.{true≢false, some≢none, not-false, is-yes, All, all_nil, all_cons, in_head, keep-none}
+use Rattle.laws.proofs.ByteOrder.{atom-lawful}
+use Rattle.std.proofs.lemmas.Bool.{not-false}
+use Rattle.laws.specs.Lists.{is-yes, All, all_nil, all_cons, in_head}
+use Rattle.laws.proofs.Lists.{true≢false, some≢none, keep-none}
 use Rattle.laws.specs.Fractions.{Lowest}
 use Rattle.laws.specs.Exact.{OfLimits}
-use Rattle.laws.specs.GoodProducts.{goodAtom, atom-tells}
-use Rattle.laws.specs.RuleCases.{contained, or-none}
-use Rattle.laws.specs.Turns.{turn}
+use Rattle.laws.specs.GoodProducts.{goodAtom}
+use Rattle.laws.proofs.GoodProducts.{atom-tells}
+use Rattle.laws.proofs.RuleCases.{contained, or-none}
+use Rattle.laws.proofs.Turns.{turn}
 use Rattle.theorems_completeness.specs.Claims.{◌⇔◌}
 use Rattle.theorems_completeness.proofs.Chosen.{measured, measured-lowest, fixed_of, first-worth}
 use Rattle.theorems_completeness.proofs.Sides.{Sided, a-product, a-variable, Wide, scalar-of, equality-of, dimension-of, RightWide}
@@ -53,9 +56,9 @@ use Rattle.rules.specs.Views.{asVar, asPower}
 use Rattle.rules.specs.Products.{divide}
 use Rattle.rules.specs.Rounds.{otherSide, taken, firstStep, performed, perform}
 use Rattle.rules.specs.WellFormed.{goodOpen}
-use Rattle.laws.specs.Lists.{one-step, bound-step}
-use Rattle.laws.specs.GoodProducts.{good-product, good-proper}
-use Rattle.laws.specs.RuleCases.{only-if, and-then}
+use Rattle.laws.proofs.Lists.{one-step, bound-step}
+use Rattle.laws.proofs.GoodProducts.{good-product, good-proper}
+use Rattle.laws.proofs.RuleCases.{only-if, and-then}
 use Rattle.theorems_completeness.proofs.Worth.{worth}
 use Rattle.theorems_completeness.proofs.Products.{Good}
 

@@ -8,8 +8,10 @@ use Rattle.rules.specs.Base.{is_none}
 use Rattle.rules.specs.Trees.{Ty, dim, Con, equal, isDim, is_scalar, hasField, Product}
 use Rattle.rules.specs.Views.{productOf}
 use Rattle.rules.specs.Choices.{Choice, dimensional, MakesTrue, isSide, wide, sideComesTo, MakesWideTrue}
-use Rattle.laws.specs.Lists.{true≢false, and_left, and_right, not-true}
-use Rattle.laws.specs.RuleCases.{product-of}
+use Rattle.std.proofs.lemmas.Bool.{not-true}
+use Rattle.laws.specs.Lists.{and_left, and_right}
+use Rattle.laws.proofs.Lists.{true≢false}
+use Rattle.laws.proofs.RuleCases.{product-of}
 use Rattle.theorems_completeness.specs.Claims.{◌⇔◌}
 
 a-product : {N : Type 0} (t : Ty N) → is_none (productOf t) ≡ false → (p : Product N) × (t ≡ dim p)

@@ -39,14 +39,15 @@ use Rattle.rules.specs.Products.{just, single, multiply, divide, raise}
 use Rattle.rules.specs.Replacing.{Look, asProduct, replaceFactors, replaceProduct, replaceDim, replaceTy, replaceCon, bindings}
 use Rattle.rules.specs.WellFormed.{goodOpen, goodTy, goodCon}
 use Rattle.laws.specs.Order.{Lawful, Tells}
-use Rattle.laws.specs.Lists.{true≢false, and_left, and_right, and_both, one-step, two_steps, same_after}
-use Rattle.laws.specs.Value.{Gives, gives, next}
+use Rattle.laws.specs.Lists.{and_left, and_right}
+use Rattle.laws.proofs.Lists.{true≢false, and_both, one-step, two_steps, same_after}
+use Rattle.laws.proofs.Value.{Gives, gives, next}
 use Rattle.laws.specs.Fractions.{Lowest}
 use Rattle.laws.specs.GoodProducts.{goodAtom}
-use Rattle.laws.specs.KeepsGood.{just-good, product-kept}
-use Rattle.laws.specs.RuleCases.{single-is}
-use Rattle.laws.specs.Occurs.{one-bound, bound-good}
-use Rattle.laws.specs.Refusing.{given as fine, onward}
+use Rattle.laws.proofs.KeepsGood.{just-good, product-kept}
+use Rattle.laws.proofs.RuleCases.{single-is}
+use Rattle.laws.proofs.Occurs.{one-bound, bound-good}
+use Rattle.laws.proofs.Refusing.{given as fine, onward}
 use Rattle.theorems_completeness.specs.Claims.{◌⇔◌}
 use Rattle.theorems_completeness.proofs.Worth.{worth, worth-just}
 use Rattle.theorems_completeness.proofs.Products.{Good, product-worth}

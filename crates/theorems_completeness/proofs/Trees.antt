@@ -30,10 +30,11 @@ use Rattle.rules.specs.Choices.{
   completedWide,
 }
 use Rattle.laws.specs.Order.{Lawful, Tells}
-use Rattle.laws.specs.ByteOrder.{atom-lawful}
+use Rattle.laws.proofs.ByteOrder.{atom-lawful}
 use Rattle.laws.specs.Exact.{OfLimits}
 use Rattle.laws.specs.Fractions.{Lowest}
-use Rattle.laws.specs.Lists.{true≢false, All, all-is, is_all, in_head}
+use Rattle.laws.specs.Lists.{All, all-is, in_head}
+use Rattle.laws.proofs.Lists.{true≢false, is_all}
 use Rattle.theorems_completeness.proofs.Chosen.{measured, measured-lowest}
 use Rattle.theorems_completeness.proofs.Sides.{wideIn, wide-as, dimensional-as, Sided, a-product, a-variable, sided-is, Wide, widely, RightWide}
 use Rattle.theorems_completeness.proofs.Rounds.{Fit, AllWide}

@@ -32,9 +32,10 @@ use Rattle.rules.specs.Views.{productOf}
 use Rattle.rules.specs.Contents.{namesIn}
 use Rattle.rules.specs.Replacing.{Look, replaceFactors, replaceTy, replaceProduct, replaceCon, replaceBinding, bindings}
 use Rattle.rules.specs.Rounds.{Step, bind, split, done, stuck, State, trySatisfy, taken, firstStep, sizeState, depthState, limited, perform, performed, round}
-use Rattle.laws.specs.Lists.{got≢refused, some≢none, in_head, one-step, two_steps, each-parts, bound-step}
-use Rattle.laws.specs.Sized.{sized_same, sized-small}
-use Rattle.laws.specs.RuleCases.{
+use Rattle.laws.specs.Lists.{in_head}
+use Rattle.laws.proofs.Lists.{got≢refused, some≢none, one-step, two_steps, each-parts, bound-step}
+use Rattle.laws.proofs.Sized.{sized_same, sized-small}
+use Rattle.laws.proofs.RuleCases.{
   Rule,
   rule,
   none-applies,
@@ -50,7 +51,7 @@ use Rattle.laws.specs.RuleCases.{
   first-factor,
   closed-struct,
 }
-use Rattle.laws.specs.Turns.{found}
+use Rattle.laws.proofs.Turns.{found}
 use Rattle.theorems_completeness.proofs.Sides.{sideIn, wideIn, wide-wide}
 use Rattle.theorems_completeness.proofs.Rounds.{IsWide, outside, Fit}
 

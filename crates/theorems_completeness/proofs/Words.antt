@@ -32,12 +32,14 @@ use Rattle.rules.specs.Calls.{
   solveCall,
 }
 use Rattle.laws.specs.Order.{Lawful, Tells}
-use Rattle.laws.specs.Checks.{need-passed}
-use Rattle.laws.specs.Given.{held-apart, lent-long, set-read}
-use Rattle.laws.specs.Refusing.{Refuses, given as fine, refusing, onward}
+use Rattle.laws.proofs.Checks.{need-passed}
+use Rattle.laws.specs.Given.{held-apart}
+use Rattle.laws.proofs.Given.{lent-long, set-read}
+use Rattle.laws.proofs.Refusing.{Refuses, given as fine, refusing, onward}
 use Rattle.laws.specs.Exact.{OfLimits}
 use Rattle.laws.specs.ByteOrder.{numbered-lawful}
-use Rattle.laws.specs.Lists.{got≢refused, and_left, bound-step}
+use Rattle.laws.specs.Lists.{and_left}
+use Rattle.laws.proofs.Lists.{got≢refused, bound-step}
 use Rattle.theorems_completeness.specs.Claims.{◌⇔◌, DimensionSet, AllChoices, Excepted, Unsolved, Told, Complete, WideSet, AllWideChoices, WideComplete}
 use Rattle.theorems_completeness.proofs.Trees.{
   only-limits,

@@ -10,8 +10,8 @@ use Rattle.rules.specs.Trees.{Atom, ◌↑◌, Product, Names, orderAtom}
 use Rattle.rules.specs.Products.{put, inverse}
 use Rattle.laws.specs.Order.{Lawful, Tells}
 use Rattle.laws.specs.Lists.{Every}
-use Rattle.laws.specs.Fractions.{
-  Lowest,
+use Rattle.laws.specs.Fractions.{Lowest}
+use Rattle.laws.proofs.Fractions.{
   nought-lowest,
   one-lowest,
   neg-lowest,
@@ -32,7 +32,8 @@ use Rattle.laws.specs.Fractions.{
   mul-neg,
 }
 use Rattle.laws.specs.ExactProducts.{mergeE, mergeOneE, raiseE}
-use Rattle.laws.specs.Powers.{Sound, Proper, inverse-is}
+use Rattle.laws.specs.Powers.{Sound, Proper}
+use Rattle.laws.proofs.Powers.{inverse-is}
 
 -- ══ Fractions ══
 

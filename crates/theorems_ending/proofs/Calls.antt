@@ -29,12 +29,14 @@ use Rattle.rules.specs.Calls.{
   solveCall,
 }
 use Rattle.rules.specs.Ceiling.{Ceiling, variablesOf, ceilingFor, ceilingCall}
-use Rattle.laws.specs.Size.{words-length, set-length}
-use Rattle.laws.specs.ReadLists.{con-read, all_read, Words, taken}
-use Rattle.laws.specs.Lists.{and_left, and_right, got≢refused}
+use Rattle.laws.proofs.Size.{words-length, set-length}
+use Rattle.laws.specs.ReadLists.{Words}
+use Rattle.laws.proofs.ReadLists.{con-read, all_read, taken}
+use Rattle.laws.specs.Lists.{and_left, and_right}
+use Rattle.laws.proofs.Lists.{got≢refused}
 use Rattle.laws.specs.NameTable.{Good}
-use Rattle.laws.specs.Value.{its_own}
-use Rattle.theorems_ending.specs.Yields.{Yields, yields, refuses, next, weaken, also}
+use Rattle.laws.proofs.Value.{its_own}
+use Rattle.theorems_ending.proofs.Yields.{Yields, yields, refuses, next, weaken, also}
 use Rattle.theorems_ending.specs.Counted.{roundsOf, roundsIn, Admitted}
 
 need-yields : (b : Bool) (n : ℕ) → 0 < n → Yields (need b n) (λ u. b ≡ true)

@@ -35,12 +35,12 @@ use Rattle.rules.specs.Trees.{
 }
 use Rattle.rules.specs.Products.{single}
 use Rattle.rules.specs.Replacing.{asProduct, replaceFactors, replaceProduct, replaceDim, replaceTy, replaceTys, replaceFields, find, bindings}
-use Rattle.laws.specs.Lists.{some≢none, every_append}
+use Rattle.laws.proofs.Lists.{some≢none, every_append}
 use Rattle.laws.specs.Order.{Lawful}
 use Rattle.laws.specs.Sorted.{Before, Sorted}
-use Rattle.theorems_ending.specs.Yields.{Yields, yields, refuses, next}
-use Rattle.theorems_ending.specs.Products.{Atoms, Neat, multiply-neat, raise-neat, divide-away}
-use Rattle.theorems_ending.specs.Fine.{Named, Fine, FineTys, FineFields, just-neat, Apart, behind, apart-atoms}
+use Rattle.theorems_ending.proofs.Yields.{Yields, yields, refuses, next}
+use Rattle.theorems_ending.proofs.Products.{Atoms, Neat, multiply-neat, raise-neat, divide-away}
+use Rattle.theorems_ending.proofs.Fine.{Named, Fine, FineTys, FineFields, just-neat, Apart, behind, apart-atoms}
 
 -- the open name of a product that is one variable to the power 1 is its only atom
 single-atoms : {N : Type 0} (P Q : Open N → Type 0) (p : Product N) (o : Open N) → single p ≡ some o → (P o → Q o) → Atoms (Named P) p → Atoms (Named Q) p

@@ -8,15 +8,16 @@ use Rattle.rules.specs.Base.{Got, Limits, bounded, and_then}
 use Rattle.rules.specs.Trees.{Open, Names, Ty, Con, equal, isDim, is_scalar, hasField, Binding, ◌≔◌, orderAtom, opens}
 use Rattle.rules.specs.Replacing.{replaceTy, replaceCon, replaceBinding, bindings}
 use Rattle.rules.specs.Rounds.{Step, bind, split, done, stuck, State, taken, firstStep, sizeState, depthState, limited, perform}
-use Rattle.laws.specs.Lists.{Every, every_append}
+use Rattle.laws.specs.Lists.{Every}
+use Rattle.laws.proofs.Lists.{every_append}
 use Rattle.laws.specs.Order.{Lawful}
-use Rattle.theorems_ending.specs.Without.{without, shorter}
-use Rattle.theorems_ending.specs.Yields.{Yields, yields, next, within-yields, bounded-yields, each-yields}
-use Rattle.theorems_ending.specs.Fine.{Fine, Any, change}
+use Rattle.theorems_ending.proofs.Without.{without, shorter}
+use Rattle.theorems_ending.proofs.Yields.{Yields, yields, next, within-yields, bounded-yields, each-yields}
+use Rattle.theorems_ending.proofs.Fine.{Fine, Any, change}
 use Rattle.theorems_ending.proofs.Replaced.{ty-replaced, product-replaced}
-use Rattle.theorems_ending.specs.Weights.{weighCon, weighAll}
+use Rattle.theorems_ending.proofs.Weights.{weighCon, weighAll}
 use Rattle.theorems_ending.proofs.Weighing.{weigh-append, weigh-all}
-use Rattle.theorems_ending.specs.Steps.{In, Ok, Stepped}
+use Rattle.theorems_ending.proofs.Steps.{In, Ok, Stepped}
 use Rattle.theorems_ending.proofs.Stepping.{Maybe, absent, present, left, try_ok}
 
 -- the most rounds one after another that bind nothing: two for each of the 2,048 records that a state may have

@@ -11,10 +11,10 @@ use Rattle.rules.specs.Trees.{Names, Con, Binding, orderAtom}
 use Rattle.rules.specs.Rounds.{Step, bind, split, done, stuck, State, firstStep, perform, performed, round}
 use Rattle.rules.specs.Solving.{Answer, accepted, stopped, finished, finish, after, run}
 use Rattle.laws.specs.Order.{Lawful}
-use Rattle.theorems_ending.specs.Without.{without}
-use Rattle.theorems_ending.specs.Yields.{Yields}
+use Rattle.theorems_ending.proofs.Without.{without}
+use Rattle.theorems_ending.proofs.Yields.{Yields}
 use Rattle.theorems_ending.specs.Counted.{roundsOf, binds, bindingRounds}
-use Rattle.theorems_ending.specs.Weights.{weighAll}
+use Rattle.theorems_ending.proofs.Weights.{weighAll}
 use Rattle.theorems_ending.proofs.Stepping.{Maybe, present}
 use Rattle.theorems_ending.proofs.Rounds.{turns, Over, First, Went, first-ok, perform-ok}
 

@@ -9,13 +9,14 @@ use Rattle.rules.specs.Contents.{variablesIn}
 use Rattle.rules.specs.WellFormed.{goodTy, goodCon, goodOpen}
 use Rattle.rules.specs.Ceiling.{variablesOf}
 use Rattle.rules.specs.Solving.{accepted, stopped, run, enough, solve}
-use Rattle.laws.specs.Lists.{and_left, and_right, in_head, Every, every-left, every-right, every-as}
-use Rattle.laws.specs.KnownNames.{Known as Held, set_known}
+use Rattle.laws.specs.Lists.{and_left, and_right, in_head, Every}
+use Rattle.laws.proofs.Lists.{every-left, every-right, every-as}
+use Rattle.laws.proofs.KnownNames.{Known as Held, set_known}
 use Rattle.laws.specs.Order.{Lawful, Tells}
-use Rattle.laws.specs.SortedNames.{sort-to}
-use Rattle.theorems_ending.specs.Fine.{good-ty, good-product, change, change-atoms}
+use Rattle.laws.proofs.SortedNames.{sort-to}
+use Rattle.theorems_ending.proofs.Fine.{good-ty, good-product, change, change-atoms}
 use Rattle.theorems_ending.proofs.Weighing.{weigh-all}
-use Rattle.theorems_ending.specs.Steps.{In, Ok}
+use Rattle.theorems_ending.proofs.Steps.{In, Ok}
 use Rattle.theorems_ending.proofs.Rounds.{turns, Over}
 use Rattle.theorems_ending.specs.Counted.{roundsOf, bindingRounds}
 pub use Rattle.theorems_ending.specs.Counted.{Admitted, start}

@@ -68,13 +68,13 @@ use Rattle.rules.specs.Rounds.{
 }
 use Rattle.laws.specs.Lists.{Every}
 use Rattle.laws.specs.Order.{Lawful}
-use Rattle.theorems_ending.specs.Without.{without, stays}
-use Rattle.theorems_ending.specs.Yields.{Yields, yields, next}
-use Rattle.theorems_ending.specs.Products.{Atoms, Neat, Thinned, thin-neat, others-thin, divide-neat}
-use Rattle.theorems_ending.specs.Fine.{Named, Fine, FineTys, FineFields, change, apart, just-neat, behind, apart-atoms}
-use Rattle.theorems_ending.specs.Weights.{weigh, weighTys, weighFields, weighDim, weighCon, weighAll}
+use Rattle.theorems_ending.proofs.Without.{without, stays}
+use Rattle.theorems_ending.proofs.Yields.{Yields, yields, next}
+use Rattle.theorems_ending.proofs.Products.{Atoms, Neat, Thinned, thin-neat, others-thin, divide-neat}
+use Rattle.theorems_ending.proofs.Fine.{Named, Fine, FineTys, FineFields, change, apart, just-neat, behind, apart-atoms}
+use Rattle.theorems_ending.proofs.Weights.{weigh, weighTys, weighFields, weighDim, weighCon, weighAll}
 use Rattle.theorems_ending.proofs.Weighing.{weighty, weigh-pairs}
-use Rattle.theorems_ending.specs.Steps.{In, Ok, Stepped}
+use Rattle.theorems_ending.proofs.Steps.{In, Ok, Stepped}
 
 -- of what is there
 pub data Maybe {A : Type 0} (P : A → Type 0) : Option A → Type 0 where

@@ -30,7 +30,7 @@ use Rattle.rules.specs.Trees.{
 }
 use Rattle.rules.specs.Views.{productOf}
 use Rattle.rules.specs.Rounds.{pairs}
-use Rattle.theorems_ending.specs.Weights.{weigh, weighTys, weighFields, weighDim, weighCon, weighAll}
+use Rattle.theorems_ending.proofs.Weights.{weigh, weighTys, weighFields, weighDim, weighCon, weighAll}
 
 module _ {N : Type 0} where
   pub weigh-append : (cs ds : List (Con N)) → weighAll (cs ++ ds) ≡ weighAll cs + weighAll ds

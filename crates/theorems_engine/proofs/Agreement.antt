@@ -34,10 +34,13 @@ use Rattle.rules.specs.Calls.{
   unsolved,
   refusedAfter,
 }
-use Rattle.laws.specs.ByteOrder.{numbered-lawful, atom-lawful}
-use Rattle.laws.specs.Checks.{need-passed}
-use Rattle.laws.specs.Given.{held-apart, lent-long, set-read}
-use Rattle.laws.specs.Lists.{Every, and_left, and_right, bound-step, bracket, same_after, each-parts, got≢refused, same-number}
+use Rattle.laws.specs.ByteOrder.{numbered-lawful}
+use Rattle.laws.proofs.ByteOrder.{atom-lawful}
+use Rattle.laws.proofs.Checks.{need-passed}
+use Rattle.laws.specs.Given.{held-apart}
+use Rattle.laws.proofs.Given.{lent-long, set-read}
+use Rattle.laws.specs.Lists.{Every, and_left, and_right}
+use Rattle.laws.proofs.Lists.{bound-step, bracket, same_after, each-parts, got≢refused, same-number}
 use Rattle.rules.specs.Elimination.{
   scalarOf,
   fits,
@@ -60,7 +63,7 @@ use Rattle.rules.specs.Elimination.{
 use Rattle.theorems_engine.specs.Claims.{Agree, Unfit, Alike, refuse-alike, accept-alike, remain-alike}
 use Rattle.theorems_engine.proofs.Runs.{answered}
 use Rattle.theorems_engine.proofs.Laid.{as-solved}
-use Rattle.laws.specs.Refusing.{Refuses, given, next, refusing}
+use Rattle.laws.proofs.Refusing.{Refuses, given, next, refusing}
 use Rattle.engine_matrix.proofs.Sevens.{Seven, eliminated-seven}
 
 -- ══ What the checks at entry say ══

@@ -2,7 +2,7 @@
 use Rattle.std.specs.Prelude.{◌≡◌, refl, List, [], ◌∷◌, ◌++◌, ℕ, suc, length}
 use Rattle.std.proofs.Common.{ap, subst, arith}
 use Rattle.rules.specs.Base.{Got, got, refused, ◌>>=◌, each}
-use Rattle.laws.specs.Value.{Gives}
+use Rattle.laws.proofs.Value.{Gives}
 
 pub data Alike {A B : Type 0} (R : A → B → Type 0) : Got A → Got B → Type 0 where
   both : {a : A} {b : B} → R a b → Alike R (got a) (got b)

@@ -15,12 +15,15 @@ use Rattle.rules.specs.Trees.{Atom, Factor, ◌↑◌, Product, Names, is_scalar
 use Rattle.rules.specs.Products.{put}
 use Rattle.rules.specs.WellFormed.{atomOf, goodProduct}
 use Rattle.rules.specs.Solving.{run, solve, enough}
-use Rattle.laws.specs.Lists.{Every, is-yes, is-no, and_left, and_right}
+use Rattle.laws.specs.Lists.{Every, is-yes, and_left, and_right}
+use Rattle.laws.proofs.Lists.{is-no}
 use Rattle.laws.specs.Order.{Lawful, Tells}
-use Rattle.laws.specs.Ranges.{nought-good, stored-good, stored-not-zero}
-use Rattle.laws.specs.Sorted.{Before, Sorted, sooner}
-use Rattle.laws.specs.SortedNames.{In, in-every, of-sort, sort-rises}
-use Rattle.laws.specs.GoodProducts.{goodAtom, GoodFactor, good-product, atom-tells}
+use Rattle.laws.proofs.Ranges.{nought-good, stored-good, stored-not-zero}
+use Rattle.laws.specs.Sorted.{Before, Sorted}
+use Rattle.laws.proofs.Sorted.{sooner}
+use Rattle.laws.proofs.SortedNames.{In, in-every, of-sort, sort-rises}
+use Rattle.laws.specs.GoodProducts.{goodAtom}
+use Rattle.laws.proofs.GoodProducts.{GoodFactor, good-product, atom-tells}
 use Rattle.rules.specs.Elimination.{
   Row,
   factors,

@@ -4,9 +4,9 @@ use Rattle.std.proofs.Common.{ap, ◌∙◌}
 use Rattle.std.proofs.Math.Bool.{and-eq-true_iff}
 use Rattle.rules.specs.Base.{got, bounded, allow}
 use Rattle.rules.specs.Exponents.{Exp, frac, gcd, nought, one, in_range, goodExp, isZero, ranged, neg, plus, mul, sum, times, quotient}
-use Rattle.laws.specs.KeepsGood.{has-inverse}
-use Rattle.laws.specs.Ranges.{good-lowest, nought-good}
-use Rattle.laws.specs.Fractions.{inverted-lowest, zero-is-nought, nought-mul, mul-nought, plus-nought, nought-plus, plus-neg, mul-one'}
+use Rattle.laws.proofs.KeepsGood.{has-inverse}
+use Rattle.laws.proofs.Ranges.{good-lowest, nought-good}
+use Rattle.laws.proofs.Fractions.{inverted-lowest, zero-is-nought, nought-mul, mul-nought, plus-nought, nought-plus, plus-neg, mul-one'}
 
 abbrev pub Good : Exp → Type 0
 Good e = goodExp e ≡ true

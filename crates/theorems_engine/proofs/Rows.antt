@@ -15,16 +15,19 @@ use Rattle.rules.specs.Trees.{Open, var, quant, par, Atom, free, base, ◌↑◌
 use Rattle.rules.specs.Products.{put, just, single, inverse, mergeOne, merge, multiply, divide, raise}
 use Rattle.rules.specs.Replacing.{Look, asProduct, replaceFactors, replaceProduct, replaceDim, replaceTy, bindings}
 use Rattle.rules.specs.Rounds.{bind, stuck, otherSide, trySatisfy}
-use Rattle.laws.specs.KeepsGood.{quotient-not-zero}
-use Rattle.laws.specs.Lists.{Every, bracket, same_after}
-use Rattle.laws.specs.Ranges.{good-lowest}
-use Rattle.laws.specs.Order.{Lawful, turned, self}
-use Rattle.laws.specs.Value.{together, its_own}
-use Rattle.laws.specs.Ranges.{nought-good, one-good, neg-good, sum-good, times-good, quotient-good}
-use Rattle.laws.specs.Sorted.{Before, merge-nil}
-use Rattle.laws.specs.SortedNames.{Rises}
-use Rattle.laws.specs.RuleCases.{single-is}
-use Rattle.laws.specs.Occurs.{one-bound}
+use Rattle.laws.proofs.KeepsGood.{quotient-not-zero}
+use Rattle.laws.specs.Lists.{Every}
+use Rattle.laws.proofs.Lists.{bracket, same_after}
+use Rattle.laws.proofs.Ranges.{good-lowest}
+use Rattle.laws.specs.Order.{Lawful, turned}
+use Rattle.laws.proofs.Order.{self}
+use Rattle.laws.proofs.Value.{together, its_own}
+use Rattle.laws.proofs.Ranges.{nought-good, one-good, neg-good, sum-good, times-good, quotient-good}
+use Rattle.laws.specs.Sorted.{Before}
+use Rattle.laws.proofs.Sorted.{merge-nil}
+use Rattle.laws.proofs.SortedNames.{Rises}
+use Rattle.laws.proofs.RuleCases.{single-is}
+use Rattle.laws.proofs.Occurs.{one-bound}
 use Rattle.rules.specs.Elimination.{Row, solvedFor, timesRow, plusRow, putInRow, Fate, gone, stays, binds, atColumn, oneFurther, fate, factors, atomNames}
 use Rattle.theorems_engine.proofs.Alike.{Alike, both, onward, one_more, other-more, same_step, other-is, other-there}
 use Rattle.theorems_engine.proofs.Powers.{Good, zero_is, nought-times, times-nought, times-one, sum-nought, nought-sum, sum-neg, nought-quotient}

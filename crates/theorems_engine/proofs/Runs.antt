@@ -15,9 +15,10 @@ use Rattle.rules.specs.Contents.{sort}
 use Rattle.rules.specs.Replacing.{Look, replaceCon, replaceBinding, bindings}
 use Rattle.rules.specs.Rounds.{Step, bind, stuck, State, trySatisfy, taken, sizeState, depthState, limited, firstStep, perform, performed, round}
 use Rattle.rules.specs.Solving.{Answer, accepted, remaining, stopped, boundOf, finished, finish, after, run}
-use Rattle.laws.specs.Lists.{Every, every_append, alone, bracket, same_after}
+use Rattle.laws.specs.Lists.{Every}
+use Rattle.laws.proofs.Lists.{every_append, alone, bracket, same_after}
 use Rattle.laws.specs.Order.{Lawful}
-use Rattle.laws.specs.Sized.{sized-kept}
+use Rattle.laws.proofs.Sized.{sized-kept}
 use Rattle.rules.specs.Elimination.{
   Row,
   Value,

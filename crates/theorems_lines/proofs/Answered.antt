@@ -16,11 +16,13 @@ use Rattle.rules.specs.Judging.{judge}
 use Rattle.rules.specs.WellFormed.{goodCon}
 use Rattle.rules.specs.Writing.{writeTy}
 use Rattle.rules.specs.Calls.{lent, tableKept, differ, writing}
-use Rattle.laws.specs.ByteOrder.{atom-lawful}
-use Rattle.laws.specs.Checks.{need-passed}
-use Rattle.laws.specs.GoodProducts.{atom-tells}
-use Rattle.laws.specs.NameTable.{Good, given-good}
-use Rattle.laws.specs.Lists.{and_left, All, all_nil, Every, bound-step, all-is, is_all}
+use Rattle.laws.proofs.ByteOrder.{atom-lawful}
+use Rattle.laws.proofs.Checks.{need-passed}
+use Rattle.laws.proofs.GoodProducts.{atom-tells}
+use Rattle.laws.specs.NameTable.{Good}
+use Rattle.laws.proofs.NameTable.{given-good}
+use Rattle.laws.specs.Lists.{and_left, All, all_nil, Every, all-is}
+use Rattle.laws.proofs.Lists.{bound-step, is_all}
 use Rattle.theorems_soundness.specs.Claims.{Ordered, Once, YesOrLimits}
 use Rattle.theorems_soundness.proofs.Words.{numbers-ordered}
 use Rattle.theorems_ending.proofs.Ending.{ends}

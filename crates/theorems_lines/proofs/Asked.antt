@@ -16,10 +16,12 @@ use Rattle.rules.specs.Rounds.{Step, bind, split, done, stuck, State, dimensionP
 use Rattle.rules.specs.Solving.{accepted, remaining, boundOf, finished, finish, after, run, solve, enough}
 use Rattle.rules.specs.Meaning.{IsDimension}
 use Rattle.laws.specs.Order.{Lawful}
-use Rattle.laws.specs.Lists.{All, all_nil, all_cons, in_head, one-step, each-went}
-use Rattle.laws.specs.Occurs.{one-bound}
-use Rattle.laws.specs.RuleCases.{parts, product-of}
-use Rattle.laws.specs.Turns.{Found, Turn, bound, parted, dropped, turn}
+use Rattle.laws.specs.Lists.{All, all_nil, all_cons, in_head}
+use Rattle.laws.proofs.Lists.{one-step, each-went}
+use Rattle.laws.proofs.Occurs.{one-bound}
+use Rattle.laws.specs.RuleCases.{parts}
+use Rattle.laws.proofs.RuleCases.{product-of}
+use Rattle.laws.proofs.Turns.{Found, Turn, bound, parted, dropped, turn}
 use Rattle.theorems_soundness.specs.Claims.{Once, keys, type_of}
 use Rattle.theorems_soundness.proofs.Finds.{find-once}
 use Rattle.theorems_lines.proofs.Shut.{Shut, ShutCon, shut-same}

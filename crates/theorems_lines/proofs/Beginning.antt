@@ -5,7 +5,8 @@ use Prim.Native.Nat.{Ordering}
 use Rattle.rules.specs.Exponents.{Exp, one, neg, isZero}
 use Rattle.rules.specs.Trees.{var, free, Names, Ty, basic, dim, boolean, Con, equal, isDim, opens}
 use Rattle.rules.specs.Products.{put}
-use Rattle.laws.specs.Fractions.{Lowest, one-lowest, neg-lowest}
+use Rattle.laws.specs.Fractions.{Lowest}
+use Rattle.laws.proofs.Fractions.{one-lowest, neg-lowest}
 use Rattle.laws.specs.Lists.{All, all_nil, all_cons, in_head, Every}
 use Rattle.theorems_soundness.specs.Claims.{Ordered}
 use Rattle.rules.specs.Steps.{Two, adds, subtracts, multiplies, divides, compares, LineStep, constant, reference, raises, joins, chooses, takes}

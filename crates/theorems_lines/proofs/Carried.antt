@@ -13,7 +13,8 @@ use Rattle.rules.specs.Replacing.{bindings}
 use Rattle.rules.specs.Meaning.{TrueUnder}
 use Rattle.rules.specs.WellFormed.{goodCon, goodBinding}
 use Rattle.laws.specs.Fractions.{Lowest}
-use Rattle.laws.specs.Lists.{All, all_nil, all_cons, all_append, in_head, Every, all-every}
+use Rattle.laws.specs.Lists.{All, all_nil, all_cons, in_head, Every, all-every}
+use Rattle.laws.proofs.Lists.{all_append}
 use Rattle.laws.specs.ExactProducts.{raiseE}
 use Rattle.theorems_soundness.specs.Claims.{Ordered}
 use Rattle.rules.specs.Steps.{

@@ -13,8 +13,9 @@ use Rattle.rules.specs.Contents.{closed}
 use Rattle.rules.specs.Products.{put}
 use Rattle.rules.specs.WellFormed.{rising, goodOpen, goodFactor, goodProduct, goodTy, goodCon}
 use Rattle.rules.specs.Rules.{rules}
-use Rattle.laws.specs.Order.{after}
-use Rattle.laws.specs.Lists.{and_both, All, all_nil, all_cons, all_append, in_head, Every, every-as, every-all}
+use Rattle.laws.proofs.Order.{after}
+use Rattle.laws.specs.Lists.{All, all_nil, all_cons, in_head, Every}
+use Rattle.laws.proofs.Lists.{and_both, all_append, every-as, every-all}
 use Rattle.theorems_soundness.specs.Claims.{Ordered, Once}
 use Rattle.rules.specs.Steps.{
   Two,

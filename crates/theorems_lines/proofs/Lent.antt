@@ -18,10 +18,11 @@ use Rattle.rules.specs.Solving.{Answer, solve}
 use Rattle.rules.specs.Judging.{judge}
 use Rattle.rules.specs.Meaning.{Solves}
 use Rattle.rules.specs.WellFormed.{goodCon, goodBinding}
-use Rattle.laws.specs.ByteOrder.{atom-lawful}
-use Rattle.laws.specs.Contents.{apart-names}
-use Rattle.laws.specs.Given.{or-some}
-use Rattle.laws.specs.Lists.{some≢none, All, all_nil, all_cons, all_append, in_head, Every, all-every, map-to, bound-step, is-yes, is-no, yes-is, no-is, is_all}
+use Rattle.laws.proofs.ByteOrder.{atom-lawful}
+use Rattle.laws.proofs.Contents.{apart-names}
+use Rattle.laws.proofs.Given.{or-some}
+use Rattle.laws.specs.Lists.{All, all_nil, all_cons, in_head, Every, all-every, is-yes}
+use Rattle.laws.proofs.Lists.{some≢none, all_append, map-to, bound-step, is-no, yes-is, no-is, is_all}
 use Rattle.theorems_soundness.specs.Claims.{Ordered, Once, YesOrLimits}
 use Rattle.theorems_soundness.proofs.Soundness.{solved-form, yes-solves}
 use Rattle.theorems_soundness.proofs.Judged.{solution-judged}

@@ -13,7 +13,7 @@ use Rattle.rules.specs.Writing.{Rec, signed}
 use Rattle.rules.specs.Reading.{records}
 use Rattle.rules.specs.Calls.{shortNumbers, type_at}
 use Rattle.rules.specs.Offices.{Name, byBytes, nameNo, mapTy, NumbersAlike, LentAlike, WrittenAlike}
-use Rattle.laws.specs.Contents.{same-eqb}
+use Rattle.laws.proofs.Contents.{same-eqb}
 use Rattle.laws.specs.NameTable.{Good}
 use Rattle.theorems_offices.proofs.Over.{collect-over}
 use Rattle.theorems_offices.proofs.Both.{Both, hence, alike, there, through, needed, checked, two-checks}

@@ -59,8 +59,10 @@ use Rattle.rules.specs.Rounds.{
 }
 use Rattle.rules.specs.Solving.{Answer, accepted, remaining, stopped, boundOf, finished, finish, after, run, solve, enough}
 use Rattle.laws.specs.Order.{Lawful}
-use Rattle.laws.specs.Lists.{All, all_nil, all_cons, all_append, in_head, is-no}
-use Rattle.laws.specs.RuleCases.{After, rule, contained}
+use Rattle.laws.specs.Lists.{All, all_nil, all_cons, in_head}
+use Rattle.laws.proofs.Lists.{all_append, is-no}
+use Rattle.laws.specs.RuleCases.{After}
+use Rattle.laws.proofs.RuleCases.{rule, contained}
 use Rattle.theorems_lines.proofs.Shut.{Never, Shut, ShutCon, shut-rule, shut-same}
 use Rattle.theorems_lines.proofs.Flow.{
   Alike,

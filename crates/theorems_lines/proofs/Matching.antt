@@ -44,17 +44,22 @@ use Rattle.rules.specs.Replacing.{Look, asProduct, replaceTy, bindings}
 use Rattle.rules.specs.Meaning.{holds, amongBounds, means, TrueUnder}
 use Rattle.rules.specs.WellFormed.{goodTy, goodCon, goodBinding}
 use Rattle.laws.specs.Order.{Lawful, Tells}
-use Rattle.laws.specs.ByteOrder.{atom-lawful}
-use Rattle.laws.specs.GoodProducts.{goodAtom, atom-tells, good-proper}
-use Rattle.laws.specs.Lists.{true≢false, some≢none, and_left, and_right, All, all_nil, all_cons, none_in, Every}
-use Rattle.laws.specs.RuleCases.{single-is}
-use Rattle.laws.specs.KeepsGood.{GoodTy}
-use Rattle.laws.specs.Fractions.{Lowest, zero-is-nought}
-use Rattle.laws.specs.ExactProducts.{mergeE, raiseE, merge-scalar}
-use Rattle.laws.specs.Powers.{Proper, raise-one, raise-nought, merge-comm, inverse-is, inverse-proper}
-use Rattle.laws.specs.Evaluation.{valued, value_of, meantBy, orSelf, Fit}
-use Rattle.laws.specs.Occurs.{OnFactor, each_opens, opens-each, merge_on, raise-on}
-use Rattle.laws.specs.Untouched.{closed_same}
+use Rattle.laws.proofs.ByteOrder.{atom-lawful}
+use Rattle.laws.specs.GoodProducts.{goodAtom}
+use Rattle.laws.proofs.GoodProducts.{atom-tells, good-proper}
+use Rattle.laws.specs.Lists.{and_left, and_right, All, all_nil, all_cons, Every}
+use Rattle.laws.proofs.Lists.{true≢false, some≢none, none_in}
+use Rattle.laws.proofs.RuleCases.{single-is}
+use Rattle.laws.proofs.KeepsGood.{GoodTy}
+use Rattle.laws.specs.Fractions.{Lowest}
+use Rattle.laws.proofs.Fractions.{zero-is-nought}
+use Rattle.laws.specs.ExactProducts.{mergeE, raiseE}
+use Rattle.laws.proofs.ExactProducts.{merge-scalar}
+use Rattle.laws.specs.Powers.{Proper}
+use Rattle.laws.proofs.Powers.{raise-one, raise-nought, merge-comm, inverse-is, inverse-proper}
+use Rattle.laws.proofs.Evaluation.{valued, value_of, meantBy, orSelf, Fit}
+use Rattle.laws.proofs.Occurs.{OnFactor, each_opens, opens-each, merge_on, raise-on}
+use Rattle.laws.proofs.Untouched.{closed_same}
 use Rattle.theorems_soundness.specs.Claims.{Ordered}
 use Rattle.theorems_soundness.proofs.Finds.{find-member}
 use Rattle.theorems_soundness.proofs.Alike.{means-same}

@@ -18,10 +18,11 @@ use Rattle.rules.specs.Solving.{accepted, solve}
 use Rattle.rules.specs.Judging.{judge}
 use Rattle.rules.specs.Meaning.{inProducts, productsOf, Premise}
 use Rattle.rules.specs.WellFormed.{goodCon}
-use Rattle.laws.specs.ByteOrder.{atom-lawful}
-use Rattle.laws.specs.Contents.{collect-append}
-use Rattle.laws.specs.Lists.{All, in_head, Every, is_all}
-use Rattle.laws.specs.Occurs.{products-occur}
+use Rattle.laws.proofs.ByteOrder.{atom-lawful}
+use Rattle.laws.proofs.Contents.{collect-append}
+use Rattle.laws.specs.Lists.{All, in_head, Every}
+use Rattle.laws.proofs.Lists.{is_all}
+use Rattle.laws.proofs.Occurs.{products-occur}
 use Rattle.theorems_soundness.specs.Claims.{Ordered, Once, Given, YesOrLimits}
 use Rattle.theorems_soundness.proofs.Soundness.{solved-form, own-answer}
 use Rattle.rules.specs.Steps.{

@@ -15,8 +15,8 @@ use Rattle.rules.specs.Writing.{Rec, writeTy}
 use Rattle.rules.specs.Reading.{records, readTy}
 use Rattle.rules.specs.WellFormed.{goodTy}
 use Rattle.rules.specs.Calls.{type_at, lentResult, lentWork, lent, tableKept, writing}
-use Rattle.laws.specs.Checks.{first-passed}
-use Rattle.laws.specs.NameTable.{given-good}
+use Rattle.laws.proofs.Checks.{first-passed}
+use Rattle.laws.proofs.NameTable.{given-good}
 use Rattle.rules.specs.Steps.{
   LineStep,
   constant,

@@ -10,12 +10,13 @@ use Rattle.rules.specs.Base.{Got, got, refused, ◌>>=◌, ◌>>◌, need, bound
 use Rattle.rules.specs.Trees.{Ty, Binding}
 use Rattle.rules.specs.Names.{Table, table_of, numbersOf, is_held, tableGiven}
 use Rattle.rules.specs.Judging.{judge}
-use Rattle.laws.specs.NameTable.{given-good}
+use Rattle.laws.proofs.NameTable.{given-good}
 use Rattle.theorems_soundness.proofs.Words.{numbers-ordered}
 use Rattle.rules.specs.Writing.{Rec, writeTy}
 use Rattle.rules.specs.Calls.{lent, shortLists, shortNumbers, tableKept, differ, Written, writing, resultAfter}
-use Rattle.laws.specs.Checks.{need-passed}
-use Rattle.laws.specs.Lists.{and_left, All, all-is, all_cons, all_nil, in_head, bound-step}
+use Rattle.laws.proofs.Checks.{need-passed}
+use Rattle.laws.specs.Lists.{and_left, All, all-is, all_cons, all_nil, in_head}
+use Rattle.laws.proofs.Lists.{bound-step}
 use Rattle.theorems_soundness.specs.Claims.{Ordered, Once, YesOrLimits}
 use Rattle.rules.specs.Steps.{LineStep, lineGiven}
 use Rattle.rules.specs.Lines.{constraints, settledSet, fresh, lineLent, lineShort, checkedLine, lineType, checkLineCall}

@@ -7,7 +7,7 @@ use Rattle.rules.specs.Judging.{judge}
 use Rattle.rules.specs.Meaning.{Solves}
 use Rattle.rules.specs.Calls.{differ, Written}
 use Rattle.rules.specs.Offices.{ReadAlike, NumbersAlike, LentAlike, WrittenAlike}
-use Rattle.laws.specs.NameTable.{given-good}
+use Rattle.laws.proofs.NameTable.{given-good}
 use Rattle.theorems_soundness.specs.Claims.{YesOrLimits}
 use Rattle.rules.specs.Steps.{LineStep, lineGiven}
 use Rattle.rules.specs.Lines.{constraints, settledSet, fresh, lineLent, lineShort, checkLineCall}

@@ -13,13 +13,17 @@ use Rattle.rules.specs.Trees.{Open, var, Atom, free, base, ◌↑◌, Product, N
 use Rattle.rules.specs.Products.{just, single, inverse, merge, mergeOne, multiply, divide, raise}
 use Rattle.rules.specs.Replacing.{Look, asProduct, replaceTy, replaceDim, replaceProduct, replaceFactors, replaceCon, find, bindings}
 use Rattle.rules.specs.Rules.{rules}
-use Rattle.laws.specs.Order.{Lawful, self, after}
-use Rattle.laws.specs.Fractions.{Lowest, one-lowest, plus-neg}
-use Rattle.laws.specs.Sorted.{merge-nil}
-use Rattle.laws.specs.Lists.{alone, All, all_cons, in_head, is-yes, is-no, all-every, bound-step, allow-same}
-use Rattle.laws.specs.ExactProducts.{mergeE, raiseE, multiply-value, raise-value}
-use Rattle.laws.specs.Occurs.{each_opens, opens-each, merge_on, raise-on, as-product-is}
-use Rattle.laws.specs.Untouched.{Unbound, ty_same, factors-same}
+use Rattle.laws.specs.Order.{Lawful}
+use Rattle.laws.proofs.Order.{self, after}
+use Rattle.laws.specs.Fractions.{Lowest}
+use Rattle.laws.proofs.Fractions.{one-lowest, plus-neg}
+use Rattle.laws.proofs.Sorted.{merge-nil}
+use Rattle.laws.specs.Lists.{All, all_cons, in_head, is-yes, all-every}
+use Rattle.laws.proofs.Lists.{alone, is-no, bound-step, allow-same}
+use Rattle.laws.specs.ExactProducts.{mergeE, raiseE}
+use Rattle.laws.proofs.ExactProducts.{multiply-value, raise-value}
+use Rattle.laws.proofs.Occurs.{each_opens, opens-each, merge_on, raise-on, as-product-is}
+use Rattle.laws.proofs.Untouched.{Unbound, ty_same, factors-same}
 use Rattle.rules.specs.Lines.{twoFactors}
 use Rattle.theorems_lines.proofs.Shut.{Never, Shut, shut-same, shut-con}
 use Rattle.theorems_lines.proofs.Flow.{

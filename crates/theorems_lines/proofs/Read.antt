@@ -12,9 +12,11 @@ use Rattle.rules.specs.Writing.{Rec, signed}
 use Rattle.rules.specs.Reading.{readTy, records}
 use Rattle.rules.specs.WellFormed.{goodTy}
 use Rattle.rules.specs.Calls.{type_at, differ}
-use Rattle.laws.specs.Checks.{need-passed}
-use Rattle.laws.specs.Given.{or-some}
-use Rattle.laws.specs.Lists.{true≢false, some≢none, and_left, and_right, not-true, Every, all-every, all-is, is_any, bound-step, each-came, each-length}
+use Rattle.laws.proofs.Checks.{need-passed}
+use Rattle.laws.proofs.Given.{or-some}
+use Rattle.std.proofs.lemmas.Bool.{not-true}
+use Rattle.laws.specs.Lists.{and_left, and_right, Every, all-every, all-is}
+use Rattle.laws.proofs.Lists.{true≢false, some≢none, is_any, bound-step, each-came, each-length}
 use Rattle.theorems_soundness.specs.Claims.{Ordered, Once}
 use Rattle.rules.specs.Steps.{
   LineStep,

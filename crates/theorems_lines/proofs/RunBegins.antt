@@ -14,14 +14,18 @@ use Rattle.rules.specs.Products.{put, inverse, multiply, divide, raise}
 use Rattle.rules.specs.Meaning.{means}
 use Rattle.rules.specs.WellFormed.{goodTy}
 use Rattle.laws.specs.Order.{Lawful, Tells}
-use Rattle.laws.specs.ByteOrder.{atom-lawful}
-use Rattle.laws.specs.GoodProducts.{goodAtom, atom-tells, good-proper}
-use Rattle.laws.specs.RuleCases.{product-of}
-use Rattle.laws.specs.ExactProducts.{mergeE, raiseE, scalar-merge, multiply-exact, divide-exact, raise-exact}
-use Rattle.laws.specs.Fractions.{Lowest, one-lowest, neg-lowest, zero-is-nought}
-use Rattle.laws.specs.Powers.{Proper, raise-one, raise-nought, raise-proper, merge-proper, inverse-proper, inverse-is, scalar-proper}
+use Rattle.laws.proofs.ByteOrder.{atom-lawful}
+use Rattle.laws.specs.GoodProducts.{goodAtom}
+use Rattle.laws.proofs.GoodProducts.{atom-tells, good-proper}
+use Rattle.laws.proofs.RuleCases.{product-of}
+use Rattle.laws.specs.ExactProducts.{mergeE, raiseE}
+use Rattle.laws.proofs.ExactProducts.{scalar-merge, multiply-exact, divide-exact, raise-exact}
+use Rattle.laws.specs.Fractions.{Lowest}
+use Rattle.laws.proofs.Fractions.{one-lowest, neg-lowest, zero-is-nought}
+use Rattle.laws.specs.Powers.{Proper}
+use Rattle.laws.proofs.Powers.{raise-one, raise-nought, raise-proper, merge-proper, inverse-proper, inverse-is, scalar-proper}
 use Rattle.laws.specs.Lists.{All, all_nil, all_cons, in_head, Every}
-use Rattle.laws.specs.Occurs.{each_opens, opens-each, merge_on, raise-on, inverse-on}
+use Rattle.laws.proofs.Occurs.{each_opens, opens-each, merge_on, raise-on, inverse-on}
 use Rattle.theorems_soundness.proofs.Alike.{same-means}
 use Rattle.theorems_soundness.specs.Claims.{Ordered}
 use Rattle.rules.specs.Steps.{

@@ -18,12 +18,17 @@ use Rattle.rules.specs.Replacing.{Look, asProduct, replaceTy, replaceCon, replac
 use Rattle.rules.specs.Rounds.{bind, done, State, trySatisfy, taken, sizeState, depthState, limited, firstStep, perform, performed, round}
 use Rattle.rules.specs.Solving.{Answer, accepted, stopped, finished, finish, after, run, solve, enough}
 use Rattle.laws.specs.Order.{Lawful, Tells}
-use Rattle.laws.specs.Exact.{OfLimits, Below, multiply-below, raise-below}
-use Rattle.laws.specs.ExactProducts.{mergeE, raiseE, scalar-merge, multiply-exact, raise-exact}
-use Rattle.laws.specs.Fractions.{Lowest, one-lowest}
-use Rattle.laws.specs.Powers.{Proper, raise-one, raise-proper, merge-comm}
-use Rattle.laws.specs.Lists.{All, all_nil, all_cons, all_append, in_head, yes-is, got≢refused}
-use Rattle.laws.specs.Occurs.{each_opens, opens-each, merge_on, raise-on}
+use Rattle.laws.specs.Exact.{OfLimits, Below}
+use Rattle.laws.proofs.Exact.{multiply-below, raise-below}
+use Rattle.laws.specs.ExactProducts.{mergeE, raiseE}
+use Rattle.laws.proofs.ExactProducts.{scalar-merge, multiply-exact, raise-exact}
+use Rattle.laws.specs.Fractions.{Lowest}
+use Rattle.laws.proofs.Fractions.{one-lowest}
+use Rattle.laws.specs.Powers.{Proper}
+use Rattle.laws.proofs.Powers.{raise-one, raise-proper, merge-comm}
+use Rattle.laws.specs.Lists.{All, all_nil, all_cons, in_head}
+use Rattle.laws.proofs.Lists.{all_append, yes-is, got≢refused}
+use Rattle.laws.proofs.Occurs.{each_opens, opens-each, merge_on, raise-on}
 use Rattle.theorems_soundness.specs.Claims.{type_of}
 use Rattle.rules.specs.Lines.{twoFactors}
 use Rattle.theorems_lines.proofs.Shut.{Never, Shut, equal-shut, shut-same, shut-con}

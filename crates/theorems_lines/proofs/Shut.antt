@@ -37,11 +37,12 @@ use Rattle.rules.specs.Trees.{
 use Rattle.rules.specs.Products.{inverse}
 use Rattle.rules.specs.Replacing.{Look, replaceTy, replaceCon, replaceProduct}
 use Rattle.rules.specs.Rounds.{Step, pairs}
-use Rattle.laws.specs.Lists.{All, all_nil, all_cons, all_append, in_head, all-every}
-use Rattle.laws.specs.RuleCases.{
+use Rattle.laws.specs.Lists.{All, all_nil, all_cons, in_head, all-every}
+use Rattle.laws.proofs.Lists.{all_append}
+use Rattle.laws.specs.RuleCases.{After}
+use Rattle.laws.proofs.RuleCases.{
   Reads,
   Sides,
-  After,
   Rule,
   none-applies,
   equal-records,
@@ -57,9 +58,10 @@ use Rattle.laws.specs.RuleCases.{
   closed-struct,
   part_of,
 }
-use Rattle.laws.specs.ExactProducts.{mergeE, divide-value}
-use Rattle.laws.specs.Occurs.{each_opens, opens-each, merge_on, inverse-on, field-occurs}
-use Rattle.laws.specs.Untouched.{Unbound, ty_same, factors-same}
+use Rattle.laws.specs.ExactProducts.{mergeE}
+use Rattle.laws.proofs.ExactProducts.{divide-value}
+use Rattle.laws.proofs.Occurs.{each_opens, opens-each, merge_on, inverse-on, field-occurs}
+use Rattle.laws.proofs.Untouched.{Unbound, ty_same, factors-same}
 
 module _ {N : Type 0} where
   -- no open name

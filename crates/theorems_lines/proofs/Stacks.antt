@@ -13,9 +13,11 @@ use Rattle.rules.specs.Trees.{Product, Names, Ty, basic, dim, boolean, Con, equa
 use Rattle.rules.specs.Meaning.{means}
 use Rattle.rules.specs.Products.{inverse}
 use Rattle.rules.specs.WellFormed.{goodBinding}
-use Rattle.laws.specs.Lists.{true≢false, and_left, and_right, All, Every, all-every}
+use Rattle.laws.specs.Lists.{and_left, and_right, All, Every, all-every}
+use Rattle.laws.proofs.Lists.{true≢false}
 use Rattle.laws.specs.Fractions.{Lowest}
-use Rattle.laws.specs.ExactProducts.{mergeE, raiseE, multiply-exact, divide-exact, raise-exact}
+use Rattle.laws.specs.ExactProducts.{mergeE, raiseE}
+use Rattle.laws.proofs.ExactProducts.{multiply-exact, divide-exact, raise-exact}
 use Rattle.theorems_soundness.specs.Claims.{Ordered}
 use Rattle.rules.specs.Steps.{
   Two,

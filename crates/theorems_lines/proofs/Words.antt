@@ -19,12 +19,14 @@ use Rattle.rules.specs.Meaning.{Solves}
 use Rattle.rules.specs.WellFormed.{goodCon}
 use Rattle.rules.specs.Writing.{Rec, words, writeTy}
 use Rattle.rules.specs.Calls.{lentResult, lent, tableKept, differ, over, resultAfter, writing}
-use Rattle.laws.specs.Checks.{need-passed}
-use Rattle.laws.specs.NameTable.{Good, given-good}
-use Rattle.laws.specs.Given.{or-some}
-use Rattle.laws.specs.Lists.{and_left, and_right, bound-step, All, Every, is_all}
-use Rattle.laws.specs.Ranges.{good-lowest}
-use Rattle.laws.specs.RuleCases.{is-nil}
+use Rattle.laws.proofs.Checks.{need-passed}
+use Rattle.laws.specs.NameTable.{Good}
+use Rattle.laws.proofs.NameTable.{given-good}
+use Rattle.laws.proofs.Given.{or-some}
+use Rattle.laws.specs.Lists.{and_left, and_right, All, Every}
+use Rattle.laws.proofs.Lists.{bound-step, is_all}
+use Rattle.laws.proofs.Ranges.{good-lowest}
+use Rattle.laws.proofs.RuleCases.{is-nil}
 use Rattle.theorems_soundness.specs.Claims.{Ordered, Given}
 use Rattle.theorems_soundness.proofs.Words.{numbers-ordered}
 use Rattle.theorems_soundness.proofs.Soundness.{solved-form, yes-solves}

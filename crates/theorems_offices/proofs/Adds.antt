@@ -10,8 +10,8 @@ use Rattle.rules.specs.Names.{Table, table_of, lentTable}
 use Rattle.rules.specs.Adding.{Added, satisfied, violated, unknown, add}
 use Rattle.rules.specs.Calls.{lentResult, shortLists, over, bufferAfter, addedTo, addCall}
 use Rattle.rules.specs.Offices.{nameNo, Name, byBytes, mapCon, AddedAlike, frontAdded}
-use Rattle.laws.specs.Checks.{need-passed, first-passed, next-passed}
-use Rattle.laws.specs.Lists.{bound-step}
+use Rattle.laws.proofs.Checks.{need-passed, first-passed, next-passed}
+use Rattle.laws.proofs.Lists.{bound-step}
 use Rattle.laws.specs.NameTable.{Good}
 use Rattle.theorems_offices.proofs.Both.{hence, alike, through, checked, two-checks, equal-answers}
 use Rattle.theorems_offices.proofs.Sizes.{size-cons}

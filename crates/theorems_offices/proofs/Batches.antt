@@ -15,7 +15,8 @@ use Rattle.rules.specs.Batches.{cutSets, eachSolved, answeredWords, fourWords, r
 use Rattle.rules.specs.Ceiling.{variablesOf, ceilingFor, ceilingCall}
 use Rattle.rules.specs.Offices.{byBytes, nameNo, mapCon, readBack, ReadAlike, LentAlike, BatchAlike, frontSolved}
 use Rattle.laws.specs.NameTable.{Good}
-use Rattle.laws.specs.Answers.{words_of, manyOf, answer-long, four-long}
+use Rattle.laws.specs.Answers.{words_of, manyOf}
+use Rattle.laws.proofs.Answers.{answer-long, four-long}
 use Rattle.theorems_offices.proofs.Both.{pair, hence, alike, checked, equal-answers}
 use Rattle.theorems_offices.proofs.Contents.{variables-in, sort-map}
 use Rattle.theorems_offices.proofs.Naming.{keeps}

@@ -4,7 +4,7 @@ use Rattle.std.proofs.Common.{ap, ap₂, sym, ◌∙◌}
 use Rattle.std.proofs.Math.Option.{Option, none, some}
 use Rattle.rules.specs.Base.{Got, got, refused, ◌>>=◌, ◌>>◌, need, orRefuse}
 use Rattle.rules.specs.Offices.{mapGot, mapOption}
-use Rattle.laws.specs.Lists.{got≢refused, clash, same-number}
+use Rattle.laws.proofs.Lists.{got≢refused, clash, same-number}
 use Rattle.theorems_offices.proofs.Over.{Over}
 
 pub record Both {A A' B : Type 0} (g : A → B) (g' : A' → B) (m : Got A) (m' : Got A') : Type 0 where

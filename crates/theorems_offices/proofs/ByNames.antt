@@ -11,7 +11,7 @@ use Rattle.rules.specs.Solving.{solve}
 use Rattle.rules.specs.Schemes.{Scheme, quantify, generalise, instantiate}
 use Rattle.rules.specs.Judging.{judge}
 use Rattle.rules.specs.Offices.{Keeps, Name, byBytes, nameNo, mapGot, mapOption, mapOpen, mapTy, mapCon, mapBinding, mapScheme, mapAnswer}
-use Rattle.laws.specs.NameTable.{given-good}
+use Rattle.laws.proofs.NameTable.{given-good}
 use Rattle.theorems_offices.proofs.Over.{each_over}
 use Rattle.theorems_offices.proofs.Sizes.{mapState}
 use Rattle.theorems_offices.proofs.Contents.{closed-map, contains-name, variables-map}

@@ -14,7 +14,7 @@ use Rattle.rules.specs.Choices.{isSide, wide}
 use Rattle.rules.specs.Calls.{over, resultAfter}
 use Rattle.rules.specs.Conflicts.{Line, linesFrom, wideOf, remains, conflicting, leaveOut, conflictIn, conflictOf, placesOf, manyOf, conflictCall}
 use Rattle.rules.specs.Offices.{Name, Keeps, byBytes, nameNo, mapTy, mapCon, mapAnswer, mapOption, LentAlike, ConflictAlike}
-use Rattle.laws.specs.Lists.{true≢false}
+use Rattle.laws.proofs.Lists.{true≢false}
 use Rattle.laws.specs.NameTable.{Good}
 use Rattle.theorems_offices.proofs.Both.{Both, Pair, neither, both, pair, hence, through, checked}
 use Rattle.theorems_offices.proofs.Contents.{keep-map}

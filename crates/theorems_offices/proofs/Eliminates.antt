@@ -25,7 +25,7 @@ use Rattle.rules.specs.Elimination.{
 }
 use Rattle.rules.specs.Offices.{Name, byBytes, nameNo, mapCon, mapBinding, ReadAlike, LentAlike, EliminatedAlike, frontEliminated}
 use Rattle.laws.specs.NameTable.{Good}
-use Rattle.laws.specs.Size.{set-length, bindings-length}
+use Rattle.laws.proofs.Size.{set-length, bindings-length}
 use Rattle.theorems_offices.proofs.Over.{each_over}
 use Rattle.theorems_offices.proofs.Both.{Both, Pair, neither, both, pair, hence, alike, through, needed, checked}
 use Rattle.theorems_offices.proofs.Sizes.{size-cons, size-bindings}

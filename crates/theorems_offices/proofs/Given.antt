@@ -34,8 +34,9 @@ use Rattle.rules.specs.Calls.{
   opensScheme,
 }
 use Rattle.rules.specs.Offices.{Name, stray, byBytes, nameNo, readBack, ReadAlike, NumbersAlike, LentAlike, mapOpen, mapTy, mapCon, mapBinding, mapScheme}
-use Rattle.laws.specs.Checks.{need-passed, first-passed, next-passed}
-use Rattle.laws.specs.Lists.{and_left, and_right, bound-step}
+use Rattle.laws.proofs.Checks.{need-passed, first-passed, next-passed}
+use Rattle.laws.specs.Lists.{and_left, and_right}
+use Rattle.laws.proofs.Lists.{bound-step}
 use Rattle.laws.specs.NameTable.{Good}
 use Rattle.theorems_offices.proofs.Over.{Over, gives, collect-over}
 use Rattle.theorems_offices.proofs.Both.{Both, Pair, neither, both, pair, hence, alike, there, through, needed}

@@ -7,9 +7,11 @@ use Rattle.rules.specs.Base.{Got, got, refused, all}
 use Rattle.rules.specs.Names.{Bytes, Table, names_of, is_held, enterChecks, enterChecked, enterNew, Entered, enter}
 use Rattle.rules.specs.Offices.{Name, named, nameNo, mapGot, Office, sameOffice, Entering, Shared, tableIn, entered, afterAll, namesBy, answered}
 use Rattle.rules.specs.Offices.{answersTo, answerFor, noThree, hadRoom}
-use Rattle.laws.specs.Lists.{true≢false, and_left, and_right}
-use Rattle.laws.specs.NameTable.{Good, good-laid, good-given, length-names, held-is, new_is}
-use Rattle.laws.specs.Entering.{Enters, Case, stopped, known, full, new, enter-case, names-with, good-with, pass-checks, Passed}
+use Rattle.laws.specs.Lists.{and_left, and_right}
+use Rattle.laws.proofs.Lists.{true≢false}
+use Rattle.laws.specs.NameTable.{Good, good-laid, length-names}
+use Rattle.laws.proofs.NameTable.{good-given, held-is, new_is}
+use Rattle.laws.proofs.Entering.{Enters, Case, stopped, known, full, new, enter-case, names-with, good-with, pass-checks, Passed}
 
 abbrev pub GoodIn : Shared → Type 0
 GoodIn s = Good s.pool s.table

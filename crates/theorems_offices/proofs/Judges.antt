@@ -15,7 +15,7 @@ use Rattle.rules.specs.WellFormed.{goodTy, rising}
 use Rattle.rules.specs.Judging.{judge}
 use Rattle.rules.specs.Calls.{opensBinding, Entry, differ, type_at, bindingOf, entriesGiven, risingBounds, judgedSet, judgeCall}
 use Rattle.rules.specs.Offices.{Name, byBytes, nameNo, mapTy, mapCon, mapBinding, mapOption, EntriesAlike}
-use Rattle.laws.specs.Contents.{same-eqb}
+use Rattle.laws.proofs.Contents.{same-eqb}
 use Rattle.laws.specs.NameTable.{Good}
 use Rattle.theorems_offices.proofs.Both.{Both, hence, alike, there, needed, same-both, equal-answers, checked, two-checks}
 use Rattle.theorems_offices.proofs.Contents.{among-map}

@@ -21,7 +21,8 @@ use Rattle.rules.specs.Offices.{
   given,
   Unmoved,
 }
-use Rattle.laws.specs.NameTable.{Good, given-good}
+use Rattle.laws.specs.NameTable.{Good}
+use Rattle.laws.proofs.NameTable.{given-good}
 use Rattle.theorems_offices.proofs.Over.{collect-over}
 use Rattle.theorems_offices.proofs.Own.{handed-alike, written-alike, value-alike}
 use Rattle.theorems_offices.proofs.Values.{asked-alike, multiply-alike, divide-alike, inverse-alike, raise-alike}

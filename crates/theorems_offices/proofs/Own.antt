@@ -31,7 +31,7 @@ use Rattle.rules.specs.Offices.{
   ownValue,
 }
 use Rattle.laws.specs.Lists.{and_left, and_right}
-use Rattle.laws.specs.Size.{words-length}
+use Rattle.laws.proofs.Size.{words-length}
 use Rattle.theorems_offices.proofs.Options.{then_map, or_map, only-map}
 use Rattle.theorems_offices.proofs.Reading.{seen}
 use Rattle.theorems_offices.proofs.Writing.{words-alike}

@@ -65,7 +65,7 @@ use Rattle.rules.specs.Offices.{
   mapBinding,
   mapOption,
 }
-use Rattle.laws.specs.Lists.{some≢none}
+use Rattle.laws.proofs.Lists.{some≢none}
 
 -- a record with a name in place of its number
 abbrev pub Seen : Type 0

@@ -21,8 +21,8 @@ use Rattle.rules.specs.TextReading.{Sheet, sheet, refusedIn, with, nextLine, lin
 use Rattle.rules.specs.Offices.{Name, byBytes, nameNo, mapOpen, mapAtom, mapFactor, mapTy, map_tys, mapFields, mapCon}
 use Rattle.laws.specs.Lists.{Every}
 use Rattle.laws.specs.NameTable.{Good}
-use Rattle.laws.specs.Sorted.{merge-each}
-use Rattle.laws.specs.Value.{Gives, next, allowed}
+use Rattle.laws.proofs.Sorted.{merge-each}
+use Rattle.laws.proofs.Value.{Gives, next, allowed}
 use Rattle.theorems_offices.proofs.Both.{Both, Pair, neither, pair, through}
 use Rattle.theorems_offices.proofs.Both as both
 use Rattle.theorems_offices.proofs.Naming.{keeps}

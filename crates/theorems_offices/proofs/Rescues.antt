@@ -36,7 +36,7 @@ use Rattle.rules.specs.Rescue.{
 use Rattle.rules.specs.Offices.{Word, Name, byBytes, nameNo, mapCon, readBack, FilesAlike, RescuedAlike}
 use Rattle.laws.specs.Lists.{and_left, and_right}
 use Rattle.laws.specs.NameTable.{Good}
-use Rattle.laws.specs.Size.{words-length}
+use Rattle.laws.proofs.Size.{words-length}
 use Rattle.rescue.specs.Told.{Bytes, keptBytes}
 use Rattle.rescue.proofs.Steps.{bytes-length}
 use Rattle.rescue.proofs.Promise.{kept_read}

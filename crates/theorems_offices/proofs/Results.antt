@@ -8,7 +8,7 @@ use Rattle.rules.specs.Names.{Table}
 use Rattle.rules.specs.Writing.{Rec, words}
 use Rattle.rules.specs.Calls.{over, resultAfter, writing, listing}
 use Rattle.rules.specs.Offices.{Word, nameNo, readBack, ReadAlike, WrittenAlike, ListedAlike}
-use Rattle.laws.specs.Size.{words-length}
+use Rattle.laws.proofs.Size.{words-length}
 use Rattle.theorems_offices.proofs.Both.{Both, Pair, neither, both, pair}
 use Rattle.theorems_offices.proofs.Reading.{same_length, seen}
 use Rattle.theorems_offices.proofs.Writing.{words-alike}

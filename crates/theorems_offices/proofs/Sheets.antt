@@ -12,9 +12,9 @@ use Rattle.rules.specs.Writing.{writeCon}
 use Rattle.rules.specs.Calls.{lent, tableKept, workAfter}
 use Rattle.rules.specs.TextReading.{Sheet, sheetRead, wasRead, notRead, handed, fromEntry, sheetGiven, readTextCall}
 use Rattle.rules.specs.Offices.{nameNo, mapCon, LentAlike, meetsThree, TextReadAlike}
-use Rattle.laws.specs.Lists.{got≢refused, clash, same-number}
+use Rattle.laws.proofs.Lists.{got≢refused, clash, same-number}
 use Rattle.laws.specs.NameTable.{Good}
-use Rattle.laws.specs.Size.{set-length}
+use Rattle.laws.proofs.Size.{set-length}
 use Rattle.theorems_offices.proofs.Both.{two-checks}
 use Rattle.theorems_offices.proofs.Sizes.{size-cons}
 use Rattle.theorems_offices.proofs.Writing.{set-written}

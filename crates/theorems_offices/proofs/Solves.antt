@@ -10,9 +10,9 @@ use Rattle.rules.specs.Names.{Table, table_of}
 use Rattle.rules.specs.Solving.{Answer, accepted, remaining, stopped, solve}
 use Rattle.rules.specs.Calls.{resultAfter, solved, unsolved, refusedAfter, solvedOf, solvedWords, solvedSet, solveCall}
 use Rattle.rules.specs.Offices.{Name, byBytes, nameNo, mapCon, mapBinding, mapAnswer, ReadAlike, LentAlike, SolvedAlike, frontSolved}
-use Rattle.laws.specs.Answers.{records-length}
+use Rattle.laws.proofs.Answers.{records-length}
 use Rattle.laws.specs.NameTable.{Good}
-use Rattle.laws.specs.Size.{set-length}
+use Rattle.laws.proofs.Size.{set-length}
 use Rattle.theorems_offices.proofs.Both.{Both, Pair, neither, both, pair, hence, alike, checked}
 use Rattle.theorems_offices.proofs.Sizes.{size-cons, size-bindings}
 use Rattle.theorems_offices.proofs.Solving.{solve-map}

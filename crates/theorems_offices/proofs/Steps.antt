@@ -9,7 +9,8 @@ use Rattle.rules.specs.Grammar.{NameAt}
 use Rattle.rules.specs.TextReading.{Sofar, Told, told, refusedAt, Step, onward, give, placed, counted, enterName, entered, named}
 use Rattle.rules.specs.Offices.{Name, nameNo, mapGot, Shared, answered, answerFor, noThree}
 use Rattle.rules.specs.Offices as offices
-use Rattle.laws.specs.NameTable.{Good, good-given, good-laid, length-names, held-is}
+use Rattle.laws.specs.NameTable.{Good, good-laid, length-names}
+use Rattle.laws.proofs.NameTable.{good-given, held-is}
 use Rattle.theorems_offices.proofs.Histories.{grown-entry, Stands, number, name-is, entry-stands}
 use Rattle.theorems_offices.proofs.Histories as histories
 

@@ -11,7 +11,8 @@ use Rattle.rules.specs.Products.{inverse, multiply, divide, raise}
 use Rattle.rules.specs.WellFormed.{goodProduct}
 use Rattle.rules.specs.Values.{ProductValue, productIn, productGiven, multiplyCall, divideCall, inverseCall, raiseCall}
 use Rattle.rules.specs.Offices.{Name, named, stray, byBytes, nameIf, nameNo, mapFactor, ValuesAlike, ProductsAlike}
-use Rattle.laws.specs.NameTable.{Good, good-given}
+use Rattle.laws.specs.NameTable.{Good}
+use Rattle.laws.proofs.NameTable.{good-given}
 use Rattle.theorems_offices.proofs.Both.{Both, hence, alike, there, through, needed, checked}
 use Rattle.theorems_offices.proofs.Products.{inverse-map, multiply-map, divide-map, raise-map}
 use Rattle.theorems_offices.proofs.WellFormed.{good-product}

@@ -12,7 +12,8 @@ use Rattle.rules.specs.Reports.{Page, page_of, Edition, editionGiven, findingOf,
 use Rattle.rules.specs.Offices.{mapOption, nameNo, mapCon}
 use Rattle.rules.specs.Apart.{File, fileAt, Found, found, foundAt, metThree, pageAt, PagesAlike}
 use Rattle.rules.specs.declared.Unseen.{Unseen}
-use Rattle.laws.specs.NameTable.{Good, given-good}
+use Rattle.laws.specs.NameTable.{Good}
+use Rattle.laws.proofs.NameTable.{given-good}
 use Rattle.theorems_offices.proofs.Readings.{now, SheetsOut, three-at, three-at', refused-at, both-read, sheets-alike}
 use Rattle.theorems_sheets_apart.proofs.Findings.{held-alike}
 use Rattle.theorems_sheets_apart.proofs.Pages.{foundText, foundPlace, foundAccepted, text-found, place-found, accepted-found}

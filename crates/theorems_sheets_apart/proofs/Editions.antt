@@ -9,7 +9,7 @@ use Rattle.rules.specs.TextReading.{Sofar, Sheet, sheet, refusedIn, sheetRead}
 use Rattle.rules.specs.Reports.{Page, page_of, page_without, Edition, onPage, readOn, namesAfter, editionGiven}
 use Rattle.rules.specs.Apart.{File, fileAt, pageAt}
 use Rattle.rules.specs.declared.Unseen.{Unseen}
-use Rattle.laws.specs.Lists.{some≢none}
+use Rattle.laws.proofs.Lists.{some≢none}
 use Rattle.laws.specs.NameTable.{Good}
 use Rattle.theorems_offices.proofs.Steps.{Grows, grows-same, grows-on}
 use Rattle.theorems_offices.proofs.Readings.{SheetsOut, three-at, three-at', refused-at, both-read, sheets-alike}

@@ -36,9 +36,10 @@ use Rattle.rules.specs.Products.{just, single}
 use Rattle.rules.specs.Plain.{plainDim, plain, plainTys, plainFields}
 use Rattle.rules.specs.Replacing.{asProduct}
 use Rattle.rules.specs.Meaning.{means, amongBounds, holds}
-use Rattle.laws.specs.Lists.{got≢refused, yes-is, is-yes}
-use Rattle.laws.specs.RuleCases.{single-is}
-use Rattle.laws.specs.Occurs.{as-product-is}
+use Rattle.laws.specs.Lists.{is-yes}
+use Rattle.laws.proofs.Lists.{got≢refused, yes-is}
+use Rattle.laws.proofs.RuleCases.{single-is}
+use Rattle.laws.proofs.Occurs.{as-product-is}
 
 module _ {N : Type 0} where
   abbrev pub Alike : Ty N → Ty N → Type 0

@@ -51,17 +51,22 @@ use Rattle.rules.specs.Rounds.{Step, stuck, pairs, otherSide}
 use Rattle.rules.specs.Meaning.{amongBounds, holds, inProducts, inProductsTys, productsOf}
 use Rattle.rules.specs.WellFormed.{goodProduct, goodTy, goodTys, goodFields, goodCon}
 use Rattle.laws.specs.Order.{Lawful, Tells}
-use Rattle.laws.specs.ExactSolve.{others_below}
-use Rattle.laws.specs.Fractions.{Lowest, inverted-none}
-use Rattle.laws.specs.Untouched.{closed_same}
-use Rattle.laws.specs.ExactProducts.{mergeE, raiseE, divide-value}
-use Rattle.laws.specs.Powers.{Proper, merge-comm, merge-inverse, inverse-proper}
-use Rattle.laws.specs.GoodProducts.{goodAtom, good-proper}
-use Rattle.laws.specs.Lists.{true≢false, some≢none, and_left, and_right, is-yes, All, all-is, is_all, in_head, map-to, Every, none_in}
-use Rattle.laws.specs.RuleCases.{
+use Rattle.laws.proofs.ExactSolve.{others_below}
+use Rattle.laws.specs.Fractions.{Lowest}
+use Rattle.laws.proofs.Fractions.{inverted-none}
+use Rattle.laws.proofs.Untouched.{closed_same}
+use Rattle.laws.specs.ExactProducts.{mergeE, raiseE}
+use Rattle.laws.proofs.ExactProducts.{divide-value}
+use Rattle.laws.specs.Powers.{Proper}
+use Rattle.laws.proofs.Powers.{merge-comm, merge-inverse, inverse-proper}
+use Rattle.laws.specs.GoodProducts.{goodAtom}
+use Rattle.laws.proofs.GoodProducts.{good-proper}
+use Rattle.laws.specs.Lists.{and_left, and_right, is-yes, All, all-is, in_head, Every}
+use Rattle.laws.proofs.Lists.{true≢false, some≢none, is_all, map-to, none_in}
+use Rattle.laws.specs.RuleCases.{After, parts}
+use Rattle.laws.proofs.RuleCases.{
   Reads,
   Sides,
-  After,
   Rule,
   none-applies,
   equal-records,
@@ -75,14 +80,13 @@ use Rattle.laws.specs.RuleCases.{
   no-factor,
   first-factor,
   closed-struct,
-  parts,
   named,
   naming,
 }
-use Rattle.laws.specs.KeepsGood.{GoodTy, sides-good}
+use Rattle.laws.proofs.KeepsGood.{GoodTy, sides-good}
 use Rattle.theorems_soundness.proofs.Steps.{sides-in}
-use Rattle.laws.specs.Evaluation.{valued, value_of, meantBy, orSelf, value-proper, valued-divided, valued-raise, valued-inverse, valued-proper, other-raised}
-use Rattle.laws.specs.Occurs.{OnFactor, each_opens, opens-each, valued-on, as-product-is, field-occurs}
+use Rattle.laws.proofs.Evaluation.{valued, value_of, meantBy, orSelf, value-proper, valued-divided, valued-raise, valued-inverse, valued-proper, other-raised}
+use Rattle.laws.proofs.Occurs.{OnFactor, each_opens, opens-each, valued-on, as-product-is, field-occurs}
 use Rattle.theorems_soundness.proofs.Alike.{alike_same, means-same, dim-alike, plain-just, no_fields}
 use Rattle.theorems_soundness.proofs.Putting.{proper-look, put-product, put-dim, put-ty, put-fields, worth-kept}
 use Rattle.theorems_soundness.proofs.Truth.{FitsIn, Holds, Respects, Equals, equals, equals-holds, turned, dimensional, dimensional-holds, scalar, scalar-holds}

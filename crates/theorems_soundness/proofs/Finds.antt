@@ -10,10 +10,11 @@ use Rattle.rules.specs.Base.{Got, got, Limits, each, is_yes}
 use Rattle.rules.specs.Trees.{Open, var, quant, par, Names, Ty, opened, Binding, ◌≔◌}
 use Rattle.rules.specs.Replacing.{Look, replaceTy, replaceBinding, find, bindings}
 use Rattle.rules.specs.Rounds.{State}
-use Rattle.laws.specs.Untouched.{Unbound}
-use Rattle.laws.specs.Lists.{some≢none, yes-is, is-yes, All, each-parts, map-to, all-every}
-use Rattle.laws.specs.Turns.{Bound, Turn, bound, parted, dropped, Ended}
-use Rattle.laws.specs.Occurs.{one-bound}
+use Rattle.laws.proofs.Untouched.{Unbound}
+use Rattle.laws.specs.Lists.{is-yes, All, all-every}
+use Rattle.laws.proofs.Lists.{some≢none, yes-is, each-parts, map-to}
+use Rattle.laws.proofs.Turns.{Bound, Turn, bound, parted, dropped, Ended}
+use Rattle.laws.proofs.Occurs.{one-bound}
 use Rattle.theorems_soundness.proofs.Steps.{OpenOk}
 use Rattle.theorems_soundness.specs.Claims.{key, type_of, keys, Once}
 use Rattle.theorems_soundness.proofs.Solved.{same_key}

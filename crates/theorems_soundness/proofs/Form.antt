@@ -32,15 +32,16 @@ use Rattle.rules.specs.Contents.{contains, unmixed}
 use Rattle.rules.specs.Rounds.{State}
 use Rattle.rules.specs.Solving.{accepted, boundOf, solve, enough}
 use Rattle.rules.specs.WellFormed.{goodOpen, goodTy, goodCon, goodBinding}
-use Rattle.laws.specs.Contents.{not-mixed}
-use Rattle.laws.specs.ByteOrder.{atom-lawful}
-use Rattle.laws.specs.GoodProducts.{atom-tells}
-use Rattle.laws.specs.Lists.{some≢none, All, all_nil, all-is, in_head, collect-from, collect-to, map-to, to-list}
-use Rattle.laws.specs.RuleCases.{contained}
-use Rattle.laws.specs.SortedNames.{sort-from, sort-rising}
+use Rattle.laws.proofs.Contents.{not-mixed}
+use Rattle.laws.proofs.ByteOrder.{atom-lawful}
+use Rattle.laws.proofs.GoodProducts.{atom-tells}
+use Rattle.laws.specs.Lists.{All, all_nil, all-is, in_head}
+use Rattle.laws.proofs.Lists.{some≢none, collect-from, collect-to, map-to, to-list}
+use Rattle.laws.proofs.RuleCases.{contained}
+use Rattle.laws.proofs.SortedNames.{sort-from, sort-rising}
 use Rattle.theorems_soundness.proofs.Steps.{OpenOk, DimOk, okFor, ConOk}
 use Rattle.theorems_soundness.specs.Claims.{Ordered, Given, key, type_of, keys, SolvedForm}
-use Rattle.laws.specs.Turns.{Ended, run-back}
+use Rattle.laws.proofs.Turns.{Ended, run-back}
 use Rattle.theorems_soundness.proofs.Solved.{Kept, turn-kept}
 
 -- ══ The start of a run ══

@@ -35,7 +35,7 @@ use Rattle.rules.specs.Judging.{judge}
 use Rattle.rules.specs.Rules.{rules}
 use Rattle.laws.specs.ByteOrder.{numbered-lawful}
 use Rattle.laws.specs.NameTable.{numbered-tells}
-use Rattle.laws.specs.Lists.{some≢none, got≢refused}
+use Rattle.laws.proofs.Lists.{some≢none, got≢refused}
 use Rattle.theorems_soundness.specs.Claims.{Ordered, Given}
 use Rattle.theorems_soundness.specs.Examples.{x, y, L, P, f, bytes, names, held, to, k10, k10-bindings}
 

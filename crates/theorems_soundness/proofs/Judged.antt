@@ -11,10 +11,11 @@ use Rattle.rules.specs.Trees.{Names, Con, Binding, sizeCon, depthCon}
 use Rattle.rules.specs.Replacing.{replaceCon, bindings}
 use Rattle.rules.specs.Meaning.{holds, TrueUnder, Solves}
 use Rattle.rules.specs.Judging.{failed, judgeCon, judge}
-use Rattle.laws.specs.Lists.{got≢refused}
+use Rattle.laws.proofs.Lists.{got≢refused}
 use Rattle.theorems_soundness.specs.Claims.{Fails}
-use Rattle.laws.specs.Exact.{Below, OfLimits, same, next, sized-below}
-use Rattle.laws.specs.ExactSolve.{con-below}
+use Rattle.laws.specs.Exact.{Below, OfLimits}
+use Rattle.laws.proofs.Exact.{same, next, sized-below}
+use Rattle.laws.proofs.ExactSolve.{con-below}
 
 never : {A : Type 0} {n : ℕ} {a : A} → refused n ≡ got a → ⊥
 never e = got≢refused (sym e)

@@ -72,16 +72,18 @@ use Rattle.rules.specs.Calls.{
   risingBounds,
   solveCall,
 }
-use Rattle.laws.specs.Checks.{need-passed}
-use Rattle.laws.specs.Given.{set-read}
+use Rattle.laws.proofs.Checks.{need-passed}
+use Rattle.laws.proofs.Given.{set-read}
 use Rattle.laws.specs.Heads.{kind-head}
-use Rattle.laws.specs.Lists.{some≢none, and_left, and_right, one-step, bound-step, Every, All, all-every, is_all, map-from, any-is}
-use Rattle.laws.specs.Reading.{read-ty, good-fits}
-use Rattle.laws.specs.ReadLists.{IsBound, read-bound, read-all, words_back}
-use Rattle.laws.specs.Size.{size-ty, words-length, bindings-length, words_append}
-use Rattle.laws.specs.Sized.{sized_same, sized-small, sized-flat}
-use Rattle.laws.specs.SortedNames.{sort-few}
-use Rattle.laws.specs.Turns.{found}
+use Rattle.laws.specs.Lists.{and_left, and_right, Every, All, all-every}
+use Rattle.laws.proofs.Lists.{some≢none, one-step, bound-step, is_all, map-from, any-is}
+use Rattle.laws.proofs.Reading.{read-ty, good-fits}
+use Rattle.laws.specs.ReadLists.{IsBound}
+use Rattle.laws.proofs.ReadLists.{read-bound, read-all, words_back}
+use Rattle.laws.proofs.Size.{size-ty, words-length, bindings-length, words_append}
+use Rattle.laws.proofs.Sized.{sized_same, sized-small, sized-flat}
+use Rattle.laws.proofs.SortedNames.{sort-few}
+use Rattle.laws.proofs.Turns.{found}
 use Rattle.theorems_soundness.specs.Claims.{Once, keys, Proposes, pointed, bindingsIn, boundsIn, SoundAnswer}
 
 -- ══ An accepted answer keeps the limits ══

@@ -38,12 +38,14 @@ use Rattle.rules.specs.Replacing.{Look, asProduct, replaceProduct, replaceDim, r
 use Rattle.rules.specs.Meaning.{inProducts, inProductsTys, inProductsFields}
 use Rattle.rules.specs.WellFormed.{goodOpen, goodProduct, goodTy, goodTys, goodFields}
 use Rattle.laws.specs.Order.{Lawful, Tells}
-use Rattle.laws.specs.GoodProducts.{goodAtom, good-proper}
-use Rattle.laws.specs.Lists.{some≢none, and_left, and_right, All, in_head, one-step, two_steps}
-use Rattle.laws.specs.RuleCases.{single-is}
-use Rattle.laws.specs.KeepsGood.{GoodTy, dimension-good}
-use Rattle.laws.specs.Occurs.{as-product-is, one-bound, fit-fits, one-fits}
-use Rattle.laws.specs.Evaluation.{valued, value_of, meantBy, orSelf, Fit, Proper-look, value-proper, valued-just, replace-exact, replace-worth}
+use Rattle.laws.specs.GoodProducts.{goodAtom}
+use Rattle.laws.proofs.GoodProducts.{good-proper}
+use Rattle.laws.specs.Lists.{and_left, and_right, All, in_head}
+use Rattle.laws.proofs.Lists.{some≢none, one-step, two_steps}
+use Rattle.laws.proofs.RuleCases.{single-is}
+use Rattle.laws.proofs.KeepsGood.{GoodTy, dimension-good}
+use Rattle.laws.proofs.Occurs.{as-product-is, one-bound, fit-fits, one-fits}
+use Rattle.laws.proofs.Evaluation.{valued, value_of, meantBy, orSelf, Fit, Proper-look, value-proper, valued-just, replace-exact, replace-worth}
 use Rattle.theorems_soundness.proofs.Alike.{Alike, plain-product, plain-injective}
 
 module _ {N : Type 0} (ν : Names N) (law : Lawful (orderAtom ν)) (held : N → Bool) (q : ℕ)

@@ -15,38 +15,22 @@ use Rattle.rules.specs.Solving.{accepted, boundOf, solve, enough}
 use Rattle.rules.specs.Calls.{opensBinding}
 use Rattle.rules.specs.Meaning.{amongBounds, holds, Solves, inProducts, productsOf, Premise}
 use Rattle.rules.specs.WellFormed.{goodBinding}
-use Rattle.laws.specs.Contents.{not-mixed, apart-names}
+use Rattle.laws.proofs.Contents.{not-mixed, apart-names}
 use Rattle.laws.specs.Order.{Lawful, Tells}
-use Rattle.laws.specs.ByteOrder.{atom-lawful}
-use Rattle.laws.specs.Exact.{ty_below}
-use Rattle.laws.specs.ExactSolve.{con-below}
-use Rattle.laws.specs.Untouched.{ty_same}
-use Rattle.laws.specs.GoodProducts.{goodAtom, atom-tells, good-proper}
-use Rattle.laws.specs.Lists.{
-  true≢false,
-  some≢none,
-  is-yes,
-  All,
-  all_nil,
-  all_cons,
-  all_append,
-  keep-none,
-  in_head,
-  is_any,
-  Came,
-  each-went,
-  each-came,
-  Origin,
-  collect-from,
-  collect-to,
-  map-to,
-  all-every,
-}
-use Rattle.laws.specs.SortedNames.{sort-to}
-use Rattle.laws.specs.RuleCases.{After, rule}
-use Rattle.laws.specs.Turns.{Found, Bound, Split, Taken, Turn, bound, parted, dropped, Ended, run-back}
-use Rattle.laws.specs.KeepsGood.{GoodTy, GoodBind, dimension-good, rule-good}
-use Rattle.laws.specs.Occurs.{ty-in, con-in}
+use Rattle.laws.proofs.ByteOrder.{atom-lawful}
+use Rattle.laws.proofs.Exact.{ty_below}
+use Rattle.laws.proofs.ExactSolve.{con-below}
+use Rattle.laws.proofs.Untouched.{ty_same}
+use Rattle.laws.specs.GoodProducts.{goodAtom}
+use Rattle.laws.proofs.GoodProducts.{atom-tells, good-proper}
+use Rattle.laws.specs.Lists.{is-yes, All, all_nil, all_cons, in_head, all-every}
+use Rattle.laws.proofs.Lists.{true≢false, some≢none, all_append, keep-none, is_any, Came, each-went, each-came, Origin, collect-from, collect-to, map-to}
+use Rattle.laws.proofs.SortedNames.{sort-to}
+use Rattle.laws.specs.RuleCases.{After}
+use Rattle.laws.proofs.RuleCases.{rule}
+use Rattle.laws.proofs.Turns.{Found, Bound, Split, Taken, Turn, bound, parted, dropped, Ended, run-back}
+use Rattle.laws.proofs.KeepsGood.{GoodTy, GoodBind, dimension-good, rule-good}
+use Rattle.laws.proofs.Occurs.{ty-in, con-in}
 use Rattle.theorems_soundness.proofs.Steps.{OpenOk, okFor, rule-in}
 use Rattle.theorems_soundness.specs.Claims.{Ordered, Given, key, type_of, keys}
 use Rattle.theorems_soundness.proofs.Solved.{same_key, type-good, turn-kept}

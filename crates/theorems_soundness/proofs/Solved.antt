@@ -11,15 +11,16 @@ use Rattle.rules.specs.Replacing.{Look, replaceTy, replaceProduct, replaceCon, r
 use Rattle.rules.specs.Rounds.{State, bind, split}
 use Rattle.rules.specs.WellFormed.{goodBinding}
 use Rattle.laws.specs.Order.{Lawful, Tells}
-use Rattle.laws.specs.Exact.{ty_below}
-use Rattle.laws.specs.ExactSolve.{con-below}
+use Rattle.laws.proofs.Exact.{ty_below}
+use Rattle.laws.proofs.ExactSolve.{con-below}
 use Rattle.laws.specs.GoodProducts.{goodAtom}
-use Rattle.laws.specs.Lists.{and_right, and_both, All, all_nil, all_cons, all_append, one-step, two_steps, Came, each-parts, each-came}
+use Rattle.laws.specs.Lists.{and_right, All, all_nil, all_cons}
+use Rattle.laws.proofs.Lists.{and_both, all_append, one-step, two_steps, Came, each-parts, each-came}
 use Rattle.theorems_soundness.specs.Claims.{key, type_of, keys, Once}
-use Rattle.laws.specs.RuleCases.{rule}
-use Rattle.laws.specs.Turns.{Found, Bound, Split, Taken, Turn, bound, parted, dropped}
-use Rattle.laws.specs.KeepsGood.{GoodTy, GoodCon, GoodBind, rule-good, con-kept, binding-kept}
-use Rattle.laws.specs.Occurs.{bound-good, ty-on, con-on}
+use Rattle.laws.proofs.RuleCases.{rule}
+use Rattle.laws.proofs.Turns.{Found, Bound, Split, Taken, Turn, bound, parted, dropped}
+use Rattle.laws.proofs.KeepsGood.{GoodTy, GoodCon, GoodBind, rule-good, con-kept, binding-kept}
+use Rattle.laws.proofs.Occurs.{bound-good, ty-on, con-on}
 use Rattle.theorems_soundness.proofs.Steps.{OpenOk, DimOk, okFor, ConOk, BindOk, rule-open}
 
 module _ {N : Type 0} where

@@ -43,15 +43,18 @@ use Rattle.rules.specs.Products.{just, inverse}
 use Rattle.rules.specs.Rounds.{Step, pairs}
 use Rattle.rules.specs.WellFormed.{goodProduct, goodCon}
 use Rattle.rules.specs.Meaning.{inProducts, inProductsTys, inProductsFields, productsOf}
-use Rattle.laws.specs.Order.{Lawful, self}
+use Rattle.laws.specs.Order.{Lawful}
+use Rattle.laws.proofs.Order.{self}
 use Rattle.laws.specs.Sorted.{Before}
-use Rattle.laws.specs.ExactProducts.{mergeE, divide-value}
-use Rattle.laws.specs.GoodProducts.{good-product}
-use Rattle.laws.specs.Lists.{All, all_nil, all_cons, all_append, in_head}
-use Rattle.laws.specs.RuleCases.{
+use Rattle.laws.specs.ExactProducts.{mergeE}
+use Rattle.laws.proofs.ExactProducts.{divide-value}
+use Rattle.laws.proofs.GoodProducts.{good-product}
+use Rattle.laws.specs.Lists.{All, all_nil, all_cons, in_head}
+use Rattle.laws.proofs.Lists.{all_append}
+use Rattle.laws.specs.RuleCases.{After}
+use Rattle.laws.proofs.RuleCases.{
   Reads,
   Sides,
-  After,
   Rule,
   none-applies,
   equal-records,
@@ -68,7 +71,7 @@ use Rattle.laws.specs.RuleCases.{
   part_of,
   not-contained,
 }
-use Rattle.laws.specs.Occurs.{each_opens, opens-each, merge_on, inverse-on, other-opens, products-occur, field-occurs}
+use Rattle.laws.proofs.Occurs.{each_opens, opens-each, merge_on, inverse-on, other-opens, products-occur, field-occurs}
 
 module _ {N : Type 0} (Parameter : N → Type 0) (keys : List N) where
   -- an open name of a constraint: a variable is no parameter's name and isn't bound

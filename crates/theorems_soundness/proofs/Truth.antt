@@ -14,9 +14,10 @@ use Rattle.rules.specs.Meaning.{holds, TrueUnder, inProducts, productsOf}
 use Rattle.rules.specs.WellFormed.{goodProduct, goodTy, goodCon}
 use Rattle.laws.specs.Order.{Lawful, Tells}
 use Rattle.laws.specs.GoodProducts.{goodAtom}
-use Rattle.laws.specs.Lists.{and_left, and_right, All, one-step, two_steps}
-use Rattle.laws.specs.RuleCases.{is-nil}
-use Rattle.laws.specs.KeepsGood.{GoodTy}
+use Rattle.laws.specs.Lists.{and_left, and_right, All}
+use Rattle.laws.proofs.Lists.{one-step, two_steps}
+use Rattle.laws.proofs.RuleCases.{is-nil}
+use Rattle.laws.proofs.KeepsGood.{GoodTy}
 use Rattle.theorems_soundness.proofs.Alike.{alike_same, means-same, same-means, dim-alike, field_alike}
 use Rattle.theorems_soundness.proofs.Putting.{Fitting, Respected, product-same, Same, put-product, ty-put}
 

@@ -65,25 +65,12 @@ use Rattle.rules.specs.Adding.{
   stored,
   add,
 }
-use Rattle.laws.specs.Lists.{
-  true≢false,
-  clash,
-  allow-same,
-  bound-step,
-  and_left,
-  and_right,
-  not-true,
-  no-is,
-  is-no,
-  Every,
-  every-left,
-  every-right,
-  one-step,
-  two_steps,
-}
-use Rattle.laws.specs.RuleCases.{fn-of, single-is, is-nil}
-use Rattle.laws.specs.Untouched.{factors-same, closed_same}
-use Rattle.laws.specs.Counts.{plain-count, replaced-count}
+use Rattle.std.proofs.lemmas.Bool.{not-true}
+use Rattle.laws.specs.Lists.{and_left, and_right, Every}
+use Rattle.laws.proofs.Lists.{true≢false, clash, allow-same, bound-step, no-is, is-no, every-left, every-right, one-step, two_steps}
+use Rattle.laws.proofs.RuleCases.{fn-of, single-is, is-nil}
+use Rattle.laws.proofs.Untouched.{factors-same, closed_same}
+use Rattle.laws.proofs.Counts.{plain-count, replaced-count}
 use Rattle.theorems_soundness.proofs.Alike.{means-same, same-means}
 use Rattle.theorems_soundness.proofs.Truth.{Equals, equals, equals-holds, dimensional, scalar}
 use Rattle.theorems_soundness.specs.Excepted.{OtherFields, ViolatedLine}

@@ -1,4 +1,5 @@
--- What adding's Violated is worth (the request on adding): a line that is shown as final. The words stand in Excepted, the proofs in Unmet, the sets in Instances.
+-- What adding's Violated is worth (the request on adding): a line that is shown as final. The words stand in Excepted, the proofs in Unmet, the sets in
+-- Instances.
 use Rattle.std.specs.Prelude.{◌≡◌, Bool, true, false, ℕ}
 use Rattle.std.proofs.Common.{sym, ap, ◌∙◌}
 use mathlib.Core.List.{List, [], ◌∷◌, Memᴰ}
@@ -13,7 +14,8 @@ use Rattle.rules.specs.Judging.{judge}
 use Rattle.rules.specs.Names.{table_of, numbersOf}
 use Rattle.rules.specs.Calls.{addCall}
 use Rattle.rules.specs.Rules.{rules}
-use Rattle.laws.specs.Lists.{true≢false, in_head}
+use Rattle.laws.specs.Lists.{in_head}
+use Rattle.laws.proofs.Lists.{true≢false}
 use Rattle.theorems_soundness.specs.Claims.{Ordered, Given, Fails, SoundAnswer}
 use Rattle.theorems_soundness.specs.Excepted.{OtherFields, ViolatedLine}
 use Rattle.theorems_soundness.proofs.Alike.{same-means}

@@ -33,11 +33,12 @@ use Rattle.rules.specs.Calls.{
   judgedSet,
   judgeCall,
 }
-use Rattle.laws.specs.Checks.{need-passed}
-use Rattle.laws.specs.Given.{held-apart, lent-long, kept-good, set-read}
+use Rattle.laws.proofs.Checks.{need-passed}
+use Rattle.laws.specs.Given.{held-apart}
+use Rattle.laws.proofs.Given.{lent-long, kept-good, set-read}
 use Rattle.laws.specs.ByteOrder.{numbered-lawful}
 use Rattle.laws.specs.NameTable.{Good}
-use Rattle.laws.specs.Lists.{bound-step}
+use Rattle.laws.proofs.Lists.{bound-step}
 use Rattle.theorems_soundness.specs.Claims.{Ordered, Given, Fails, Proposes, YesOrLimits, SoundAnswer, JudgedSet}
 use Rattle.theorems_soundness.proofs.Form.{final, solved-form}
 use Rattle.theorems_soundness.proofs.Runs.{answer-apart, solves}

@@ -4,7 +4,8 @@ use Rattle.std.proofs.Common.{arith, ap, ap₂, sym, subst, ◌∙◌}
 use Rattle.rules.specs.Trees.{Product, Ty, dim, Con, equal, isDim, is_scalar, hasField, size, sizeCon}
 use Rattle.records.specs.Views.{viewAt}
 use Rattle.records.specs.Holds.{Holds}
-use Rattle.records.specs.ByView.{ArmsCon, con-by-view, con-in}
+use Rattle.records.specs.ByView.{ArmsCon}
+use Rattle.records.proofs.ByView.{con-by-view, con-in}
 use Rattle.records.specs.Parsed.{only}
 use Rattle.records.specs.declared.View.{View}
 use Rattle.records.specs.declared.View.TheVariants as view

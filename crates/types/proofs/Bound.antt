@@ -9,7 +9,8 @@ use Rattle.records.specs.Parsed.{only}
 use Rattle.records.specs.declared.View.{View}
 use Rattle.records.specs.declared.View.TheVariants as view
 use Rattle.types.specs.Once.{ATree}
-use Rattle.types.specs.Binds.{HoldsBinds, IsBinds, Binds, binding-some, only-binds}
+use Rattle.types.specs.Binds.{IsBinds, Binds, binding-some}
+use Rattle.types.proofs.Binds.{HoldsBinds, only-binds}
 use Rattle.types.specs.Runs.{HoldsEach}
 
 module _ (s : List ℕ) where

@@ -6,15 +6,17 @@ use Rattle.rules.specs.Trees as tree
 use Rattle.rules.specs.Values.{productValue, value_of}
 use Rattle.rules.specs.Writing.{Rec, rec, head, writeFactor, writeProduct}
 use Rattle.products.specs.Kinds.{Kind, variable, parameter, dimension, quantified}
-use Rattle.products.specs.Places.{put-given, given-len}
+use Rattle.products.proofs.Places.{put-given, given-len}
 use Rattle.products.specs.Told.{Tree, valueIn, given, put_of}
 use Rattle.products.specs.declared.Factor as code
 use Rattle.products.specs.declared.Product as code-product
-use Rattle.records.specs.Cut.{fit, fits}
+use Rattle.records.specs.Cut.{fit}
+use Rattle.records.proofs.Cut.{fits}
 use Rattle.records.specs.Views.{recOf}
 use Rattle.records.specs.declared.View.{View}
 use Rattle.records.specs.declared.View.TheVariants as view
-use Rattle.types.specs.Written.{Writes, writes-none, writes-then}
+use Rattle.types.specs.Written.{Writes}
+use Rattle.types.proofs.Written.{writes-none, writes-then}
 use Rattle.types.specs.declared.writer.Writer.{Writer}
 
 -- ══ Read ══

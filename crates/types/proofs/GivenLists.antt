@@ -7,14 +7,16 @@ use Rattle.rules.specs.Names.{table_of}
 use Rattle.rules.specs.Reading.{readCon, readTy, readBinding}
 use Rattle.rules.specs.Trees.{Binding, Con, sizeBinding, sizeCon, depthCon}
 use Rattle.records.specs.Found.{Words32}
-use Rattle.records.specs.Given.{list-told, one_told, con-reader, type-reader, binding-reader}
+use Rattle.records.proofs.Given.{list-told, one_told, con-reader, type-reader, binding-reader}
 use Rattle.records.specs.Good.{Chain, Chained, There, GoodCon, goodCon, GoodTy, goodTy, GoodBinding, goodBinding}
-use Rattle.records.specs.Whole.{set_given, type-given, bindings-given}
-use Rattle.types.specs.Binds.{HoldsBinds, one-binds}
+use Rattle.records.proofs.Whole.{set_given, type-given, bindings-given}
+use Rattle.types.specs.Binds.{one-binds}
+use Rattle.types.proofs.Binds.{HoldsBinds}
 use Rattle.types.specs.Fine.{Fine, FineBindings}
 use Rattle.types.specs.Once.{one-tree}
-use Rattle.types.specs.Rows.{Row, row}
-use Rattle.types.specs.Sets.{HoldsCons, one-set}
+use Rattle.types.proofs.Rows.{Row, row}
+use Rattle.types.specs.Sets.{one-set}
+use Rattle.types.proofs.OnSets.{HoldsCons}
 use Rattle.types.specs.Runs.{HoldsEach}
 use Rattle.types.proofs.Tested.{Held}
 

@@ -4,7 +4,8 @@ use Rattle.std.proofs.Common.{arith, ap, sym, subst, ◌∙◌}
 use Rattle.rules.specs.Trees.{Ty, fn, struct, Tys, nil, cons, Fields, size, sizeTys, count}
 use Rattle.records.specs.Views.{viewAt}
 use Rattle.records.specs.Holds.{Holds, HoldsTys}
-use Rattle.records.specs.ByView.{size-pos, ends-in}
+use Rattle.records.specs.ByView.{ends-in}
+use Rattle.records.proofs.ByView.{size-pos}
 use Rattle.records.specs.declared.View.TheVariants as view
 use Rattle.types.specs.Once.{ATree, Trees, one-list}
 use Rattle.types.specs.Shapes.{row}

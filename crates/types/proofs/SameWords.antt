@@ -27,12 +27,13 @@ use Rattle.rules.specs.Trees.{
   ty-dec,
 }
 use Rattle.rules.specs.Writing.{words, writeTy}
-use Rattle.laws.specs.Lists.{is-yes, is-no}
-use Rattle.laws.specs.Size.{size-ty, words-length}
+use Rattle.laws.specs.Lists.{is-yes}
+use Rattle.laws.proofs.Lists.{is-no}
+use Rattle.laws.proofs.Size.{size-ty, words-length}
 use Rattle.records.specs.Views.{viewAt, longAt, longOf, view_of}
 use Rattle.records.specs.Places.{view-some, long-some, recAt}
 use Rattle.records.specs.Holds.{HoldsFactors, HoldsProduct, Holds, HoldsTys, HoldsFields}
-use Rattle.records.specs.Held.{held-words}
+use Rattle.records.proofs.Held.{held-words}
 use Rattle.records.specs.Parsed.{only}
 use Rattle.records.specs.ByView.{ends-in}
 use Rattle.types.specs.Once.{ATree}

@@ -29,8 +29,10 @@ use Rattle.rules.specs.Views.{asVar, productOf}
 use Rattle.rules.specs.Writing.{twos, signed}
 use Rattle.records.specs.Views.{viewAt, longAt}
 use Rattle.records.specs.Places.{seen-in}
-use Rattle.records.specs.Holds.{openOf, atomOf, viewAtom, basicOf, HoldsFactor, HoldsFactors, HoldsProduct, Holds, HoldsTys, HoldsFields, holds-long}
-use Rattle.records.specs.ByView.{Arms, by-view, factor-by-view, in_reach, ends-in}
+use Rattle.records.specs.Holds.{openOf, atomOf, viewAtom, basicOf, HoldsFactor, HoldsFactors, HoldsProduct, Holds, HoldsTys, HoldsFields}
+use Rattle.records.proofs.Holds.{holds-long}
+use Rattle.records.specs.ByView.{ends-in}
+use Rattle.records.proofs.ByView.{Arms, by-view, factor-by-view, in_reach}
 use Rattle.records.specs.declared.Open as names
 use Rattle.records.specs.declared.Atom as atoms
 use Rattle.records.specs.declared.Basic as basics

@@ -8,8 +8,9 @@ use Rattle.rules.specs.Calls.{shortLists, tableKept}
 use Rattle.rules.specs.Names.{Table, table_of, tableGiven, lentTable}
 use Rattle.rules.specs.Refusals.{number_of, told, toldBy}
 use Rattle.rules.specs.declared.Refusal.{Refusal}
-use Rattle.laws.specs.Checks.{need-passed}
-use Rattle.laws.specs.Lists.{clash, refused-before, and_left, and_right}
+use Rattle.laws.proofs.Checks.{need-passed}
+use Rattle.laws.specs.Lists.{and_left, and_right}
+use Rattle.laws.proofs.Lists.{clash, refused-before}
 use Rattle.names.specs.Told.{unit_of}
 use Rattle.names.specs.declared.tables.NameTable.{NameTable}
 use Rattle.types.specs.Given.{list_over, short_over}

@@ -2,8 +2,6 @@ pub mod Binds
 pub mod Fine
 pub mod Given
 pub mod Once
-pub mod Puts
-pub mod Rows
 pub mod Runs
 pub mod Sets
 pub mod Shapes

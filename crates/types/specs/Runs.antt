@@ -1,5 +1,5 @@
 -- Things one after another from a place up to another: the words alone say which they are.
-use Rattle.std.specs.Prelude.{◌≡◌, List, [], ◌∷◌, ℕ, ◌+◌, ◌/◌, ◌≤◌, refl, length}
+use Rattle.std.specs.Prelude.{◌≡◌, List, [], ◌∷◌, ℕ, ◌+◌, ◌≤◌, refl}
 use mathlib.Core.HLevel.{Σ_prop_path, Unit-prop}
 use Rattle.std.proofs.Common.{arith, ap₂, ap, sym, subst}
 use Rattle.rules.specs.Base.{sum_of}
@@ -14,13 +14,6 @@ module _ {A : Type 0} (Here : List ℕ → A → ℕ → Type 0) (long : A → �
   pub record IsRun (at end : ℕ) (xs : List A) : Type 0 where
     pub held : HoldsEach xs at
     pub ends : end ≡ at + sum_of long xs
-
-  -- they lie within the words, if each does
-  pub each-in : ((x : A) (at : ℕ) → Here s x at → at + long x ≤ length s / 4) → (xs : List A) (at : ℕ) → at ≤ length s / 4 → HoldsEach xs at
-      → at + sum_of long xs ≤ length s / 4
-  unfolding HoldsEach
-  each-in one [] at le h = omega arith
-  each-in one (x ∷ xs) at le h = omega (arith, each-in one xs (at + long x) (one x at h.0) h.1)
 
   abbrev pub Run : ℕ → ℕ → Type 0
   Run at end = (xs : List A) × IsRun at end xs

@@ -1,7 +1,7 @@
 -- `report` meets its contract: without any why the text is the same.
 use Rattle.rules.specs.Reports.{editionGiven}
 use Rattle.edition.specs.Files.{files_of}
-use Rattle.edition.specs.Told.{plain-is}
+use Rattle.edition.proofs.Told.{plain-is}
 use Rattle.edition.proofs.report.Goals as goal
 
 pub returns-clause-told : goal.returns-clause-told

@@ -2,7 +2,7 @@
 use Rattle.rules.specs.Reports.{editionGiven}
 use Rattle.edition.proofs.Truth.{edition-true}
 use Rattle.edition.specs.Files.{files_of}
-use Rattle.edition.specs.Report.{sunk-told, sunk-leaves, sunk-counted}
+use Rattle.edition.proofs.OnReport.{sunk-told, sunk-leaves, sunk-counted}
 use Rattle.edition.specs.Told.{Whole}
 use Rattle.edition.proofs.report_as.Goals as goal
 

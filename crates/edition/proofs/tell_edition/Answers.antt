@@ -1,8 +1,8 @@
 -- `tell_edition` meets its contract: pages, and then the last line.
 use Rattle.std.specs.Prelude.{refl}
 use Rattle.std.proofs.Common.{rules, ◌≡◌, Err, ◌∙◌}
-use Rattle.edition.specs.Files.{as-many}
-use Rattle.edition.specs.Told.{whole-told, whole-cut}
+use Rattle.edition.proofs.Files.{as-many}
+use Rattle.edition.proofs.Told.{whole-told, whole-cut}
 use Rattle.edition.proofs.tell_edition.Goals as goal
 
 pub returns-in_err-accepted : goal.returns-in_err-accepted

@@ -1,6 +1,6 @@
 -- `put_text` meets its contract: the bytes before the index are put.
 use Rattle.std.proofs.Common.{arith}
-use Rattle.text_spell.specs.Sinks.{then, longer}
+use Rattle.text_spell.proofs.Sinks.{then, longer}
 use Rattle.edition_html.specs.Pages.{pageByte}
 use Rattle.edition_html.proofs.Bytes.{none, more, short}
 use Rattle.edition_html.proofs.put_text.Goals as goal

@@ -1,7 +1,7 @@
 -- `eliminate` meets its contract.
 use mathlib.Core.Path.{refl}
-use Rattle.records_buffers.specs.Lent.{Long, long, short}
-use Rattle.engine.specs.Entry.{call-short, called}
+use Rattle.records_buffers.proofs.OnLent.{Long, long, short}
+use Rattle.engine.proofs.Entry.{call-short, called}
 use mathlib.Core.Bool.{not}
 use mathlib.Core.Path.{ap}
 use Rattle.engine.proofs.eliminate.Goals as goal

@@ -1,8 +1,8 @@
 use mathlib.Core.List.{[], ◌∷◌}
 use Rattle.rules.specs.Trees.{◌≔◌, opens, opensCon}
 use Rattle.rules.specs.Replacing.{replaceCon, bindings}
-use Rattle.laws.specs.Lists.{every-as}
-use Rattle.laws.specs.Untouched.{absent, ty_same, con_same, binding_same, each_same}
+use Rattle.laws.proofs.Lists.{every-as}
+use Rattle.laws.proofs.Untouched.{absent, ty_same, con_same, binding_same, each_same}
 use Rattle.laws.proofs.absent_variable_stays.Goals as goal
 
 pub returns : goal.returns

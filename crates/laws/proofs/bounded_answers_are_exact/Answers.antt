@@ -1,8 +1,9 @@
 use Rattle.rules.specs.Base.{bounded, exact}
 use Rattle.rules.specs.Trees.{Product, Names}
 use Rattle.rules.specs.Replacing.{Look, replaceProduct}
-use Rattle.laws.specs.Exact.{Below, sum_below, times_below, multiply-below, divide-below, raise-below, factors-below, ty_below}
-use Rattle.laws.specs.ExactSolve.{con-below, binding-below, run-below}
+use Rattle.laws.specs.Exact.{Below}
+use Rattle.laws.proofs.Exact.{sum_below, times_below, multiply-below, divide-below, raise-below, factors-below, ty_below}
+use Rattle.laws.proofs.ExactSolve.{con-below, binding-below, run-below}
 use Rattle.laws.proofs.bounded_answers_are_exact.Goals as goal
 
 product-below : {N : Type 0} (ν : Names N) (look : Look N) (p : Product N) → Below (replaceProduct ν bounded look p) (replaceProduct ν exact look p)

@@ -1,4 +1,4 @@
-use Rattle.laws.specs.Untouched.{closed_same}
+use Rattle.laws.proofs.Untouched.{closed_same}
 use Rattle.laws.proofs.closed_types_stay.Goals as goal
 
 pub returns : goal.returns

@@ -1,6 +1,6 @@
 use Rattle.std.proofs.Common.{arith}
 use Rattle.std.specs.Prelude.{◌≡◌, ℕ}
-use Rattle.laws.specs.Fractions.{
+use Rattle.laws.proofs.Fractions.{
   nought-lowest,
   one-lowest,
   neg-lowest,

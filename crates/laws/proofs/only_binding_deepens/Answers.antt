@@ -1,4 +1,4 @@
-use Rattle.laws.specs.Nesting.{ty-deep, step-within, split-counted, done-counted, bound-counted}
+use Rattle.laws.proofs.Nesting.{ty-deep, step-within, split-counted, done-counted, bound-counted}
 use Rattle.laws.proofs.only_binding_deepens.Goals as goal
 
 pub returns : goal.returns

@@ -1,5 +1,5 @@
-use Rattle.laws.specs.ExactProducts.{merge-scalar}
-use Rattle.laws.specs.Powers.{
+use Rattle.laws.proofs.ExactProducts.{merge-scalar}
+use Rattle.laws.proofs.Powers.{
   scalar-proper,
   merge-proper,
   inverse-proper,

@@ -1,7 +1,7 @@
 use Rattle.rules.specs.Reading.{readCon}
 use Rattle.rules.specs.Writing.{writeCon}
-use Rattle.laws.specs.Written.{factors-read, ty-read}
-use Rattle.laws.specs.ReadLists.{con-read, binding-read, bound-read, all_read, taken}
+use Rattle.laws.proofs.Written.{factors-read, ty-read}
+use Rattle.laws.proofs.ReadLists.{con-read, binding-read, bound-read, all_read, taken}
 use Rattle.laws.proofs.read_is_what_stands.Goals as goal
 
 pub returns : goal.returns

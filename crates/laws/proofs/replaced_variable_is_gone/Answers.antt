@@ -4,7 +4,7 @@ use Rattle.std.proofs.Math.Path.{refl}
 use mathlib.Core.List.{Memᴰ}
 use Rattle.rules.specs.Trees.{Open, var, opens, opensCon}
 use Rattle.laws.specs.Lists.{All}
-use Rattle.laws.specs.Occurs.{ty-on, con-on}
+use Rattle.laws.proofs.Occurs.{ty-on, con-on}
 use Rattle.laws.specs.Theorems.{Gone}
 use Rattle.laws.proofs.replaced_variable_is_gone.Goals as goal
 

@@ -1,4 +1,4 @@
-use Rattle.laws.specs.KeepsGood.{product-kept, ty_kept, con-kept, binding-kept}
+use Rattle.laws.proofs.KeepsGood.{product-kept, ty_kept, con-kept, binding-kept}
 use Rattle.laws.proofs.replacing_keeps_well_formed.Goals as goal
 
 pub returns : goal.returns

@@ -1,5 +1,5 @@
-use Rattle.laws.specs.Reading.{read-factors, read-ty}
-use Rattle.laws.specs.ReadLists.{read-con, read-binding, read-bound, read_set, words_back, one_set}
+use Rattle.laws.proofs.Reading.{read-factors, read-ty}
+use Rattle.laws.proofs.ReadLists.{read-con, read-binding, read-bound, read_set, words_back, one_set}
 use Rattle.laws.proofs.written_is_read_back.Goals as goal
 
 pub returns : goal.returns

@@ -5,7 +5,7 @@ use Rattle.std.specs.Prelude.{List}
 use Rattle.rules.specs.Base.{Got, need}
 use Rattle.rules.specs.Writing.{Rec}
 use Rattle.records_buffers.specs.Told.{handed}
-use Rattle.lines.specs.Whole.{Room, room-is, call-short, called, tested}
+use Rattle.lines.proofs.Whole.{Room, room-is, call-short, called, tested}
 use Rattle.lines.proofs.check_line.Goals as goal
 
 pub returns-then-not-room : goal.returns-then-not-room

@@ -1,6 +1,6 @@
 -- A table that passed is well formed.
 use mathlib.Core.Path.{sym}
-use Rattle.laws.specs.NameTable.{given-good}
+use Rattle.laws.proofs.NameTable.{given-good}
 use Rattle.names.proofs.enter.Goals as goal
 
 pub enter_good-requires : goal.enter_good-requires

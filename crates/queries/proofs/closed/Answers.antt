@@ -3,7 +3,7 @@ use mathlib.Core.Path.{sym, ap, ◌∙◌}
 use Rattle.std.proofs.lemmas.Result.{err_from_is_err_and}
 use Rattle.rules.specs.Base.{got}
 use Rattle.rules.specs.Names.{table_of, names_of}
-use Rattle.queries.specs.Answers.{typed, typed-small, closed-refused, closed-mixed, closed_said}
+use Rattle.queries.proofs.Answers.{typed, typed-small, closed-refused, closed-mixed, closed_said}
 use Rattle.queries.proofs.closed.Goals as goal
 
 pub is_unmixed-requires : goal.is_unmixed-requires

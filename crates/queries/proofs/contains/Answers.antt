@@ -7,7 +7,7 @@ use Rattle.rules.specs.Names.{table_of, names_of}
 use lib.Dec.{eqb}
 use lib.ListN.{length}
 use Rattle.queries.specs.Scans.{choose, opensIn}
-use Rattle.queries.specs.Answers.{typed, typed-good, typed-small, contains-refused, contains-unheld, contains-mixed, contains-said}
+use Rattle.queries.proofs.Answers.{typed, typed-good, typed-small, contains-refused, contains-unheld, contains-mixed, contains-said}
 use Rattle.queries.proofs.contains.Goals as goal
 
 pub invariant_of-names : goal.invariant_of-names

@@ -3,7 +3,7 @@ use mathlib.Core.Path.{sym, ◌∙◌}
 use native.Mathlib.Omega.{arith}
 use Rattle.std.proofs.lemmas.Result.{err_from_is_err_and}
 use Rattle.rules.specs.Names.{table_of, names_of}
-use Rattle.queries.specs.Answers.{typed, typed-good, typed-small, typed-held, variables-short, variables-refused, variables-mixed, variables-said}
+use Rattle.queries.proofs.Answers.{typed, typed-good, typed-small, typed-held, variables-short, variables-refused, variables-mixed, variables-said}
 use Rattle.queries.proofs.variables.Goals as goal
 
 pub returns-then-res-lt-RECORD_WORDS : goal.returns-then-res-lt-RECORD_WORDS

@@ -2,8 +2,8 @@
 use Rattle.std.proofs.lemmas.Result.{err_from_is_err_and}
 use Rattle.rules.specs.Calls.{schemeCall}
 use Rattle.records.specs.Found.{Words32}
-use Rattle.records.specs.Schemes.{scheme-told}
-use Rattle.records.specs.Whole.{entry-good}
+use Rattle.records.proofs.Schemes.{scheme-told}
+use Rattle.records.proofs.Whole.{entry-good}
 use mathlib.Core.Path.{refl, sym, ◌∙◌}
 use Rattle.records.proofs.is_scheme.Goals as goal
 

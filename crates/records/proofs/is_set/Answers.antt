@@ -2,7 +2,7 @@
 use Rattle.std.proofs.lemmas.Result.{err_from_is_err_and}
 use Rattle.rules.specs.Calls.{setCall}
 use Rattle.records.specs.Found.{Words32}
-use Rattle.records.specs.Whole.{entry-good, set_told}
+use Rattle.records.proofs.Whole.{entry-good, set_told}
 use mathlib.Core.Path.{refl, sym, ◌∙◌}
 use Rattle.records.proofs.is_set.Goals as goal
 

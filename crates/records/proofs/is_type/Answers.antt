@@ -2,7 +2,7 @@
 use Rattle.std.proofs.lemmas.Result.{err_from_is_err_and}
 use Rattle.rules.specs.Calls.{typeCall}
 use Rattle.records.specs.Found.{Words32}
-use Rattle.records.specs.Whole.{entry-good, type-told}
+use Rattle.records.proofs.Whole.{entry-good, type-told}
 use mathlib.Core.Path.{refl, sym, ◌∙◌}
 use Rattle.records.proofs.is_type.Goals as goal
 

@@ -1,5 +1,5 @@
 -- `lent` meets its contract.
-use Rattle.records_buffers.specs.Lent.{short-pool, short-table, short-result, long_rest}
+use Rattle.records_buffers.proofs.OnLent.{short-pool, short-table, short-result, long_rest}
 use Rattle.records_buffers.proofs.lent.Goals as goal
 use Rattle.records_buffers.proofs.lent.Goals.{
   then-pool-lt-POOL_BYTES-via-then-pool-lt-POOL_BYTES,

@@ -9,7 +9,7 @@ use Rattle.rules.specs.Writing.{Rec}
 use Rattle.records_buffers.specs.Told.{handed}
 use Rattle.replace_calls.specs.Made.{madeType}
 use Rattle.replace_calls.proofs.Checks.{tested}
-use Rattle.records_buffers.specs.Lent.{Long, long, short}
+use Rattle.records_buffers.proofs.OnLent.{Long, long, short}
 use Rattle.replace_calls.proofs.Whole.{type-short, type-called}
 use Rattle.replace_calls.proofs.replace_in_type.Goals as goal
 

@@ -2,7 +2,7 @@
 use mathlib.Core.Path.{ap, ◌∙◌}
 use mathlib.Core.Bool.{not}
 use Rattle.std.proofs.Common.{sym}
-use Rattle.records_buffers.specs.Lent.{Long, long, short}
+use Rattle.records_buffers.proofs.OnLent.{Long, long, short}
 use Rattle.schemes.proofs.Instantiated.{instantiate-row, instantiate-short, instantiate-called}
 use Rattle.schemes.proofs.Called.{over_tested, made-as}
 use Rattle.schemes.proofs.instantiate.Goals as goal

@@ -5,8 +5,8 @@ use Rattle.rules.specs.Calls.{solvedSet}
 use Rattle.rules.specs.Names.{numbersOf}
 use Rattle.rules.specs.Solving.{solve}
 use Rattle.rules.specs.Refusals.{told}
-use Rattle.solve.specs.Entry.{over_tested}
-use Rattle.solve_batch.specs.Steps.{finished-as}
+use Rattle.solve.proofs.Entry.{over_tested}
+use Rattle.solve_batch.proofs.Steps.{finished-as}
 use Rattle.rules.specs.Batches.{batchFits}
 use Rattle.solve_batch.proofs.Checks.{Room, roomy, cramped, begun, call-short, call-unfit, called}
 use mathlib.Core.Bool.{not}

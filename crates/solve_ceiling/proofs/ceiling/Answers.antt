@@ -3,7 +3,7 @@ use mathlib.Core.Path.{sym, ap, ◌∙◌}
 use Rattle.std.proofs.lemmas.Result.{err_from_is_err_and}
 use Rattle.rules.specs.Base.{got}
 use Rattle.solve_ceiling.proofs.Answers.{ceiling-refused, ceiling-given}
-use Rattle.solve_ceiling.specs.Counting.{counted-few}
+use Rattle.solve_ceiling.proofs.Counting.{counted-few}
 use Rattle.solve_ceiling.proofs.ceiling.Goals as goal
 
 pub most-requires : goal.most-requires

@@ -4,7 +4,7 @@ use mathlib.Core.Path.{◌≡◌, ap}
 use native.Mathlib.Omega.{arith}
 use Rattle.std.proofs.Common.{rules}
 use Rattle.std.specs.Prelude.{is_none, length}
-use Rattle.records_buffers.specs.Lent.{Long, long, short}
+use Rattle.records_buffers.proofs.OnLent.{Long, long, short}
 use Rattle.rules.specs.Names.{table_of}
 use Rattle.rules.specs.Refusals.{toldBy}
 use Rattle.solve_confirm.proofs.Handed.{told, small, put-over, call-short, called, answered-over, judged-over}

@@ -1,7 +1,7 @@
 -- `conflict` meets its contract.
 use mathlib.Core.Bool.{not}
 use Rattle.std.proofs.Common.{ap}
-use Rattle.records_buffers.specs.Lent.{Long, long, short}
+use Rattle.records_buffers.proofs.OnLent.{Long, long, short}
 use Rattle.solve_conflict.proofs.Entering.{call-short, called, found-over}
 use Rattle.solve_conflict.proofs.conflict.Goals as goal
 

@@ -1,7 +1,7 @@
 -- `read_text` meets its contract, by what its parts did.
 use native.Mathlib.Omega.{arith}
-use Rattle.records_buffers.specs.Lent.{Long}
-use Rattle.records_buffers.specs.Lent as lent
+use Rattle.records_buffers.proofs.OnLent.{Long}
+use Rattle.records_buffers.proofs.OnLent as lent
 use Rattle.text.proofs.ReadCall.{short, pool-long, table-long, called}
 use mathlib.Core.Bool.{not}
 use mathlib.Core.Path.{ap}

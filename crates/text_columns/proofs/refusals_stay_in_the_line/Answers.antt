@@ -1,4 +1,4 @@
-use Rattle.text_columns.specs.Told.{refused-in}
+use Rattle.text_columns.proofs.Told.{refused-in}
 use Rattle.text_columns.proofs.refusals_stay_in_the_line.Goals as goal
 
 pub returns : goal.returns

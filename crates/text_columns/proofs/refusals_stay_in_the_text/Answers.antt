@@ -1,4 +1,4 @@
-use Rattle.text_columns.specs.Left.{refused-within}
+use Rattle.text_columns.proofs.Left.{refused-within}
 use Rattle.text_columns.proofs.refusals_stay_in_the_text.Goals as goal
 
 pub returns : goal.returns

@@ -1,5 +1,5 @@
-use Rattle.laws.specs.NameTable.{given-good, good-given}
-use Rattle.text_columns.specs.Left.{read-back, read-few, read-keeps-good}
+use Rattle.laws.proofs.NameTable.{given-good, good-given}
+use Rattle.text_columns.proofs.Left.{read-back, read-few, read-keeps-good}
 use Rattle.text_columns.proofs.Sound.{read-sound}
 use Rattle.text_columns.proofs.what_is_read_is_read_back.Goals as goal
 

@@ -6,8 +6,8 @@ use lib.IntN.{pos}
 use Rattle.rules.specs.Base.{got}
 use Rattle.rules.specs.Exponents.{neg, goodExp, lowest}
 use Rattle.rules.specs.Grammar.{signedBy}
-use Rattle.laws.specs.Fractions.{lowest-neg}
-use Rattle.text_grammar.specs.Values.{value-large, value-zero, value-under, value_there, lowest-good}
+use Rattle.laws.proofs.Fractions.{lowest-neg}
+use Rattle.text_grammar.proofs.Values.{value-large, value-zero, value-under, value_there, lowest-good}
 use Rattle.text_grammar.proofs.power_value.Goals as goal
 
 pub returns-then-num-gt-TOP : goal.returns-then-num-gt-TOP

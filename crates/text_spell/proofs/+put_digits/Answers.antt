@@ -1,5 +1,5 @@
 -- `put_digits` meets its contract.
-use Rattle.text_spell.specs.Sinks.{then}
+use Rattle.text_spell.proofs.Sinks.{then}
 use Rattle.text_spell.proofs.Names.{more_digits}
 use Rattle.text_spell.proofs.+put_digits.Goals as goal
 

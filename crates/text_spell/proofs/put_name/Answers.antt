@@ -1,6 +1,6 @@
 -- `put_name` meets its contract: the bytes before the index are put.
 use Rattle.std.proofs.Common.{arith}
-use Rattle.text_spell.specs.Sinks.{then, longer}
+use Rattle.text_spell.proofs.Sinks.{then, longer}
 use Rattle.text_spell.proofs.Names.{no_name, name_more, next_short}
 use Rattle.text_spell.proofs.put_name.Goals as goal
 

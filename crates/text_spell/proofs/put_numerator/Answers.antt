@@ -1,5 +1,5 @@
 -- `put_numerator` meets its contract.
-use Rattle.text_spell.specs.Sinks.{then}
+use Rattle.text_spell.proofs.Sinks.{then}
 use Rattle.text_spell.proofs.Names.{negative}
 use Rattle.text_spell.proofs.put_numerator.Goals as goal
 

@@ -3,7 +3,7 @@ use Rattle.std.proofs.Common.{◌≡◌, false, sym, ap, ◌∙◌}
 use Rattle.rules.specs.Base.{is_yes}
 use Rattle.rules.specs.Exponents.{Exp, one, Exp-dec, frac}
 use Rattle.rules.specs.Writing.{signed}
-use Rattle.text_spell.specs.Sinks.{then}
+use Rattle.text_spell.proofs.Sinks.{then}
 use Rattle.text_spell.proofs.Names.{some_power}
 use Rattle.text_spell.proofs.put_power.Goals as goal
 

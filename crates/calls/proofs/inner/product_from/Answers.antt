@@ -3,7 +3,7 @@ use mathlib.Core.Path.{refl, ◌∙◌}
 use mathlib.Core.List.{[]}
 use native.Mathlib.Omega.{arith}
 use lib.ListN.{length-set}
-use Rattle.products.specs.Held.{made-long}
+use Rattle.products.proofs.Held.{made-long}
 use Rattle.calls_defined.specs.Given.{factorsFrom}
 use Rattle.calls.proofs.OfValues.{from_step, from-whole}
 use Rattle.calls.proofs.inner.product_from.Goals as goal

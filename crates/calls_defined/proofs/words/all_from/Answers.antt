@@ -1,6 +1,6 @@
 -- `all_from` meets its contract. The invariant: what is left from i on decides.
 use Rattle.std.proofs.Common.{sym, refl, ◌∙◌, rules, eq-eqb, ne_eqb}
-use Rattle.calls_defined.specs.Same.{same_end, same-on, same_not}
+use Rattle.calls_defined.proofs.Same.{same_end, same-on, same_not}
 use Rattle.calls_defined.proofs.words.all_from.Goals as goal
 
 pub loop-i-init : goal.loop-i-init

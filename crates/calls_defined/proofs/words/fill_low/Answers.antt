@@ -1,7 +1,8 @@
 -- `words::fill_low` meets its contract: the loop says what is left to store.
 use Rattle.std.proofs.Common.{map, sym, refl, ◌∙◌, arith}
 use lib.ListN.{length-map}
-use Rattle.calls_defined.specs.Fills.{low_byte, fill_step, fill_end}
+use Rattle.calls_defined.specs.Fills.{low_byte}
+use Rattle.calls_defined.proofs.Fills.{fill_step, fill_end}
 use lib.ListN.{get_or-map}
 use Rattle.calls_defined.proofs.words.fill_low.Goals as goal
 

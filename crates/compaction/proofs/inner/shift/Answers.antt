@@ -5,7 +5,7 @@ use Prim.Native.Nat.{ℕ, ◌+◌, ◌-◌}
 use lib.ListN.{set, get_or, length-set}
 use lib.Seq.{get_or-set_other, sets, slice}
 use Rattle.compaction.proofs.Moves.{shift-end}
-use Rattle.records.specs.Stores.{copy_step}
+use Rattle.records.proofs.Stores.{copy_step}
 use Rattle.compaction.proofs.inner.shift.Goals as goal
 
 pub loop-i-init : goal.loop-i-init

@@ -1,6 +1,6 @@
 -- `read_all` meets its contract: the table is tested first.
 use Rattle.std.proofs.Common.{sym}
-use Rattle.laws.specs.NameTable.{given-good}
+use Rattle.laws.proofs.NameTable.{given-good}
 use Rattle.edition.proofs.intake.read_all.Goals as goal
 
 pub read_files-requires : goal.read_files-requires

@@ -1,6 +1,6 @@
 -- `read_file` meets its contract: a file that is had is read, and one that isn't leaves the names as they are.
 use Rattle.std.specs.Prelude.{refl}
-use Rattle.edition.specs.Reading.{read-page, text-read, file-unseen}
+use Rattle.edition.proofs.Reading.{read-page, text-read, file-unseen}
 use Rattle.edition.proofs.intake.read_file.Goals as goal
 
 pub returns-in_ok-sheet-in-Ok : goal.returns-in_ok-sheet-in-Ok

@@ -1,7 +1,7 @@
 -- `read_files` meets its contract: file after file.
 use Rattle.std.specs.Prelude.{refl}
 use Rattle.std.proofs.Common.{arith}
-use Rattle.edition.specs.Files.{one-read, all-read}
+use Rattle.edition.proofs.Files.{one-read, all-read}
 use Rattle.edition.proofs.intake.read_files.Goals as goal
 
 pub loop-file-preserved : goal.loop-file-preserved

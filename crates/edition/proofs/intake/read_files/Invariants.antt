@@ -1,4 +1,4 @@
-use Rattle.edition.specs.Files.{ReadSoFar}
+use Rattle.edition.proofs.Files.{ReadSoFar}
 use Rattle.edition.proofs.intake.read_files.Given as goal
 
 abbrev pub invariant-loop-file : goal.invariant-loop-file

@@ -1,7 +1,7 @@
 -- `read_one` meets its contract: the records stand at the front of the result.
 use native.Mathlib.Omega.{arith}
 use Rattle.std.proofs.Common.{sym, length-take-le}
-use Rattle.edition.specs.Sheets.{was-ok, was-err, read-fits}
+use Rattle.edition.proofs.Sheets.{was-ok, was-err, read-fits}
 use Rattle.edition.proofs.intake.read_one.Goals as goal
 
 pub overflow_mul-end : goal.overflow_mul-end

@@ -2,7 +2,7 @@
 use Rattle.std.specs.Prelude.{refl}
 use Rattle.rules.specs.Calls.{solvedSet}
 use Rattle.rules.specs.Names.{table_of, numbersOf}
-use Rattle.edition.specs.Judged.{placed-same, found-set, found-unread, found-unseen}
+use Rattle.edition.proofs.Judged.{placed-same, found-set, found-unread, found-unseen}
 use Rattle.edition.proofs.telling.judge_sheet.Goals as goal
 
 pub returns-in-Set : goal.returns-in-Set

@@ -1,5 +1,5 @@
 -- `page_of` meets its contract.
-use Rattle.edition.specs.Pages.{tells}
+use Rattle.edition.proofs.Pages.{tells}
 use Rattle.edition.proofs.telling.page_of.Goals as goal
 
 pub returns : goal.returns

@@ -1,6 +1,6 @@
 -- `tell_asked` meets its contract: a page, and its why behind it.
 use Rattle.std.proofs.Common.{rules, ◌≡◌, Err}
-use Rattle.edition.specs.Told.{asked-cut, asked-plain, asked-why}
+use Rattle.edition.proofs.Told.{asked-cut, asked-plain, asked-why}
 use Rattle.edition.proofs.telling.tell_asked.Goals as goal
 
 pub returns-in_err-outcome : goal.returns-in_err-outcome

@@ -2,7 +2,7 @@
 use Rattle.std.specs.Prelude.{refl}
 use Rattle.std.proofs.Common.{rules, ◌≡◌, Err, arith, ap, ◌∙◌}
 use Rattle.rules.specs.Reports.{oneIf}
-use Rattle.edition.specs.Told.{none-told, one-told, one-cut, one-small, all-told, all-counted}
+use Rattle.edition.proofs.Told.{none-told, one-told, one-cut, one-small, all-told, all-counted}
 use Rattle.edition.proofs.telling.tell_each.Goals as goal
 
 pub loop-sheet-init : goal.loop-sheet-init

@@ -1,5 +1,5 @@
 use Rattle.rules.specs.Names.{table_of}
-use Rattle.edition.specs.Told.{ToldSoFar}
+use Rattle.edition.proofs.Told.{ToldSoFar}
 use Rattle.edition.specs.Why.{pageTold}
 use Rattle.edition.proofs.telling.tell_each.Given as goal
 

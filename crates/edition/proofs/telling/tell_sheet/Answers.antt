@@ -1,8 +1,8 @@
 -- `tell_sheet` meets its contract: by whether its page is shown.
 use Rattle.std.proofs.Common.{rules, ◌≡◌, Err}
 use Rattle.rules.specs.Names.{table_of}
-use Rattle.text_spell.specs.Sinks.{nothing}
-use Rattle.edition.specs.Pages.{hidden, visible, page-is}
+use Rattle.text_spell.proofs.Sinks.{nothing}
+use Rattle.edition.proofs.Pages.{hidden, visible, page-is}
 use Rattle.edition.proofs.telling.tell_sheet.Goals as goal
 
 pub returns-then-not-is_shown-clause-told : goal.returns-then-not-is_shown-clause-told

@@ -1,5 +1,5 @@
 -- `put_conflict` meets its contract: the head, and then the lines.
-use Rattle.text_spell.specs.Sinks.{then, cut}
+use Rattle.text_spell.proofs.Sinks.{then, cut}
 use Rattle.edition.specs.Why.{conflictHead}
 use Rattle.edition.proofs.why.put_conflict.Goals as goal
 

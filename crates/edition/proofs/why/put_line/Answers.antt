@@ -1,5 +1,5 @@
 -- `put_line` meets its contract: piece by piece.
-use Rattle.text_spell.specs.Sinks.{then}
+use Rattle.text_spell.proofs.Sinks.{then}
 use Rattle.edition.proofs.why.put_line.Goals as goal
 
 pub returns : goal.returns

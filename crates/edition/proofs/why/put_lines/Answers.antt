@@ -1,7 +1,7 @@
 -- `put_lines` meets its contract: the lines of the places before the index are put.
 use Rattle.std.proofs.Common.{arith}
 use Rattle.rules.specs.Base.{collect}
-use Rattle.text_spell.specs.Sinks.{nothing, then, cut}
+use Rattle.text_spell.proofs.Sinks.{nothing, then, cut}
 use Rattle.edition.specs.Why.{whyLine}
 use Rattle.edition.proofs.Each.{each-more, each-rest}
 use Rattle.edition.proofs.why.put_lines.Goals as goal

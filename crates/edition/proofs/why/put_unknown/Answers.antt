@@ -1,5 +1,5 @@
 -- `put_unknown` meets its contract: piece by piece.
-use Rattle.text_spell.specs.Sinks.{then, cut}
+use Rattle.text_spell.proofs.Sinks.{then, cut}
 use Rattle.edition.specs.Why.{unknownText}
 use Rattle.edition.proofs.why.put_unknown.Goals as goal
 

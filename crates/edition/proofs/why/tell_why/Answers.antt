@@ -2,8 +2,8 @@
 use Rattle.std.specs.Prelude.{[], Ok}
 use Rattle.std.proofs.Common.{ap, sym, ◌∙◌, length-take-le}
 use Rattle.rules.specs.Names.{table_of}
-use Rattle.text_spell.specs.Sinks.{nothing}
-use Rattle.edition.specs.Asked.{why-is, told-none, told-some, told-fits, told-refused}
+use Rattle.text_spell.proofs.Sinks.{nothing}
+use Rattle.edition.proofs.Asked.{why-is, told-none, told-some, told-fits, told-refused}
 use Rattle.edition.proofs.why.tell_why.Goals as goal
 
 pub slice_bounds-put_conflict-end : goal.slice_bounds-put_conflict-end

@@ -1,5 +1,5 @@
 use Rattle.std.proofs.Common.{ap, sym}
-use Rattle.types.specs.Sets.{alone, placed-alone}
+use Rattle.types.proofs.OnSets.{alone, placed-alone}
 use Rattle.edition_certificates.proofs.Going.{begun, one-more, not-a-line, all-told}
 use Rattle.edition_certificates.proofs.inner.all_proposed.Goals as goal
 

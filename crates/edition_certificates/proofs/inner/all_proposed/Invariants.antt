@@ -1,4 +1,4 @@
-use Rattle.types.specs.Sets.{alone}
+use Rattle.types.proofs.OnSets.{alone}
 use Rattle.types.specs.Shapes.{cons_of}
 use Rattle.edition_certificates.proofs.Going.{Going}
 use Rattle.edition_certificates.proofs.inner.all_proposed.Given as goal

@@ -1,6 +1,6 @@
 use Rattle.std.proofs.Common.{arith, ap, ◌∙◌, ◌≡◌, ◌*◌, length, take, drop, take_at, ◌≤◌}
 use Rattle.edition_certified.proofs.Judged.{was-kept, was-stopped}
-use Rattle.edition.specs.Sheets.{was-ok, was-err, read-fits}
+use Rattle.edition.proofs.Sheets.{was-ok, was-err, read-fits}
 use Rattle.edition_certified.proofs.inner.read_over.Goals as goal
 
 pub overflow_mul-read : goal.overflow_mul-read

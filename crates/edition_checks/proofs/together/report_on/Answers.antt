@@ -1,5 +1,5 @@
 -- The table is one without names, and the files are those that were given.
-use Rattle.edition.specs.Told.{plain-is}
+use Rattle.edition.proofs.Told.{plain-is}
 use Rattle.edition_checks.specs.Given.{editionOf}
 use Rattle.edition_checks.proofs.together.report_on.Goals as goal
 

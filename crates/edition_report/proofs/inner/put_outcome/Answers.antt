@@ -2,9 +2,9 @@
 use Rattle.std.proofs.Common.{arith}
 use Rattle.rules.specs.Reports.{findingText}
 use Rattle.text_write.specs.Parts.{name_of}
-use Rattle.text_spell.specs.Sinks.{cut, then}
-use Rattle.edition_report.specs.Found.{agrees-text, remains-text, left-there, solved-in, solved-there}
-use Rattle.edition_report.specs.Rows.{left-rows, left-text, solved-rows, solved-text}
+use Rattle.text_spell.proofs.Sinks.{cut, then}
+use Rattle.edition_report.proofs.Found.{agrees-text, remains-text, left-there, solved-in, solved-there}
+use Rattle.edition_report.proofs.OnRows.{left-rows, left-text, solved-rows, solved-text}
 use Rattle.edition_report.proofs.inner.put_outcome.Goals as goal
 
 pub returns-in-Unseen : goal.returns-in-Unseen

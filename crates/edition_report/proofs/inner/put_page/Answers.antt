@@ -1,6 +1,6 @@
 -- `put_page` meets its contract: piece by piece.
 use Rattle.rules.specs.Reports.{reportText}
-use Rattle.text_spell.specs.Sinks.{cut, then}
+use Rattle.text_spell.proofs.Sinks.{cut, then}
 use Rattle.edition_report.proofs.inner.put_page.Goals as goal
 
 pub returns-in_err-put_shown : goal.returns-in_err-put_shown

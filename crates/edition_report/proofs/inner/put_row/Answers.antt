@@ -1,6 +1,6 @@
 -- `put_row` meets its contract: by what the record at the place says.
 use Rattle.std.proofs.Common.{arith, sym, ◌∙◌}
-use Rattle.edition_report.specs.Rows.{as_binding, as_bound, as_left}
+use Rattle.edition_report.proofs.OnRows.{as_binding, as_bound, as_left}
 use Rattle.edition_report.proofs.inner.put_row.Goals as goal
 
 pub overflow_add-at : goal.overflow_add-at

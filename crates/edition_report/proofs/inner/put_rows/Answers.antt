@@ -2,9 +2,10 @@
 use Rattle.std.specs.Prelude.{◌≡◌, refl, []}
 use Rattle.std.proofs.Common.{arith, sym, ap, ◌∙◌, ◌++◌, append-nil, append_assoc}
 use Rattle.rules.specs.Base.{collect}
-use Rattle.text_spell.specs.Sinks.{cut, nothing, then}
+use Rattle.text_spell.proofs.Sinks.{cut, nothing, then}
 use Rattle.text_write.specs.Parts.{name_of}
-use Rattle.edition_report.specs.Rows.{first, no-rows, rowText}
+use Rattle.edition_report.specs.Rows.{rowText}
+use Rattle.edition_report.proofs.OnRows.{first, no-rows}
 use Rattle.edition_report.proofs.inner.put_rows.Goals as goal
 
 pub loop-at-init : goal.loop-at-init

@@ -1,7 +1,7 @@
 -- `constraint_line` meets its contract: lines are left behind one after another, and with each the constraint that it holds.
 use Rattle.std.proofs.Common.{◌≡◌, true, sym, ◌∙◌, arith}
-use Rattle.laws.specs.Lists.{true≢false}
-use Rattle.edition_report.specs.Ahead.{from-first, this-holds, none-holds, holds-on}
+use Rattle.laws.proofs.Lists.{true≢false}
+use Rattle.edition_report.proofs.Ahead.{from-first, this-holds, none-holds, holds-on}
 use Rattle.edition_report.proofs.lines.constraint_line.Goals.{else-here-via-then-here+else-left-eq0, else-here-via-else-here}
 use Rattle.edition_report.proofs.lines.constraint_line.Goals as goal
 

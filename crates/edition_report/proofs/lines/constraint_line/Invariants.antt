@@ -1,5 +1,5 @@
 use Rattle.std.proofs.Common.{◌-◌, length}
-use Rattle.edition_report.specs.Ahead.{Holding}
+use Rattle.edition_report.proofs.Ahead.{Holding}
 use Rattle.edition_report.proofs.lines.constraint_line.Given as goal
 
 abbrev pub invariant-loop-k : goal.invariant-loop-k

@@ -1,6 +1,6 @@
 -- `holds_some` meets its contract: by the first sign.
 use Rattle.std.proofs.Common.{arith}
-use Rattle.edition_report.specs.Ahead.{nothing-there, sign-there}
+use Rattle.edition_report.proofs.Ahead.{nothing-there, sign-there}
 use Rattle.edition_report.proofs.lines.holds_some.Goals as goal
 
 pub returns-then-line-at : goal.returns-then-line-at

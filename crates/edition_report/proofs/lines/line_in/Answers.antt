@@ -1,6 +1,6 @@
 -- `line_in` meets its contract: lines are left behind one after another.
 use Rattle.std.proofs.Common.{refl}
-use Rattle.edition_report.specs.Ahead.{at-first}
+use Rattle.edition_report.proofs.Ahead.{at-first}
 use Rattle.edition_report.proofs.lines.line_in.Goals as goal
 
 pub loop-before-init : goal.loop-before-init

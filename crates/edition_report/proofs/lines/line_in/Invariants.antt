@@ -1,5 +1,5 @@
 use Rattle.std.specs.Prelude.{◌-◌}
-use Rattle.edition_report.specs.Ahead.{Ahead}
+use Rattle.edition_report.proofs.Ahead.{Ahead}
 use Rattle.edition_report.proofs.lines.line_in.Given as goal
 
 abbrev pub invariant-loop-before : goal.invariant-loop-before

@@ -1,5 +1,5 @@
 -- `put_point` meets its contract: piece by piece.
-use Rattle.text_spell.specs.Sinks.{cut, then}
+use Rattle.text_spell.proofs.Sinks.{cut, then}
 use Rattle.edition_report.proofs.pages.put_point.Goals as goal
 
 pub returns-in_err-put : goal.returns-in_err-put

@@ -1,5 +1,5 @@
 -- `put_remaining` meets its contract: piece by piece.
-use Rattle.text_spell.specs.Sinks.{cut, then}
+use Rattle.text_spell.proofs.Sinks.{cut, then}
 use Rattle.edition_report.proofs.pages.put_remaining.Goals as goal
 
 pub returns-in_err-put_refused : goal.returns-in_err-put_refused

@@ -1,6 +1,6 @@
 -- `put_unread` meets its contract: piece by piece.
 use Rattle.rules.specs.Reports.{findingText}
-use Rattle.text_spell.specs.Sinks.{cut, then}
+use Rattle.text_spell.proofs.Sinks.{cut, then}
 use Rattle.edition_report.proofs.pages.put_unread.Goals as goal
 
 pub returns-in_err-put_refused : goal.returns-in_err-put_refused

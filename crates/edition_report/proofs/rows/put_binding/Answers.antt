@@ -1,5 +1,5 @@
 -- `put_binding` meets its contract.
-use Rattle.text_spell.specs.Sinks.{then}
+use Rattle.text_spell.proofs.Sinks.{then}
 use Rattle.edition_report.proofs.rows.put_binding.Goals as goal
 
 pub returns : goal.returns

@@ -1,6 +1,6 @@
 -- `put_mark` meets its contract: piece by piece.
 use Rattle.rules.specs.Reports.{markShown}
-use Rattle.text_spell.specs.Sinks.{cut, then}
+use Rattle.text_spell.proofs.Sinks.{cut, then}
 use Rattle.edition_report.proofs.shown.put_mark.Goals as goal
 
 pub returns-in_err-put : goal.returns-in_err-put

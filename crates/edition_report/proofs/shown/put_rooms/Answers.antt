@@ -1,6 +1,6 @@
 -- `put_rooms` meets its contract: the blanks under the bytes before the index are put.
 use Rattle.std.proofs.Common.{arith}
-use Rattle.text_spell.specs.Sinks.{then, longer}
+use Rattle.text_spell.proofs.Sinks.{then, longer}
 use Rattle.edition_report.proofs.Bytes.{no_rooms, rooms_more, rooms_short}
 use Rattle.edition_report.proofs.shown.put_rooms.Goals as goal
 

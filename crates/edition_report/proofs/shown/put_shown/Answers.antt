@@ -1,6 +1,6 @@
 -- `put_shown` meets its contract: the bytes before the index are put.
 use Rattle.std.proofs.Common.{arith}
-use Rattle.text_spell.specs.Sinks.{then, longer}
+use Rattle.text_spell.proofs.Sinks.{then, longer}
 use Rattle.edition_report.proofs.Bytes.{shown_more, shown_short}
 use Rattle.edition_report.proofs.shown.put_shown.Goals as goal
 

@@ -1,7 +1,7 @@
 -- `show_line` meets its contract.
 use Rattle.std.proofs.Common.{◌≡◌, ◌-◌, arith}
 use Rattle.edition_report.proofs.Bytes.{line_is}
-use Rattle.text_spell.specs.Sinks.{cut, then}
+use Rattle.text_spell.proofs.Sinks.{cut, then}
 use Rattle.edition_report.proofs.shown.show_line.Goals as goal
 
 pub returns-in_err-put_part : goal.returns-in_err-put_part

@@ -1,6 +1,6 @@
 -- `put_refused` meets its contract: piece by piece.
 use Rattle.rules.specs.Reports.{refusedText}
-use Rattle.text_spell.specs.Sinks.{cut, then}
+use Rattle.text_spell.proofs.Sinks.{cut, then}
 use Rattle.edition_report.proofs.words.put_refused.Goals as goal
 
 pub returns-in_err-put : goal.returns-in_err-put

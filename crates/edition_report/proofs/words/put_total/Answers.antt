@@ -1,6 +1,6 @@
 -- `put_total` meets its contract: piece by piece.
 use Rattle.rules.specs.Reports.{totalText}
-use Rattle.text_spell.specs.Sinks.{cut, then}
+use Rattle.text_spell.proofs.Sinks.{cut, then}
 use Rattle.edition_report.proofs.words.put_total.Goals as goal
 
 pub returns-in_err-put_quantity : goal.returns-in_err-put_quantity

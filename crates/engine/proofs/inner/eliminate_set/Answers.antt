@@ -2,7 +2,7 @@
 use Rattle.std.proofs.Common.{sym, ◌∙◌, arith}
 use Rattle.std.proofs.lemmas.Result.{err_from_is_err_and}
 use Rattle.records.specs.Found.{Words32}
-use Rattle.engine.specs.Entry.{came-in, kept_out, answers-as, held-set, set-held, reduced-set}
+use Rattle.engine.proofs.Entry.{came-in, kept_out, answers-as, held-set, set-held, reduced-set}
 use Rattle.engine.proofs.Written.{refused-answers}
 use Rattle.engine.proofs.inner.eliminate_set.Goals as goal
 

@@ -2,7 +2,7 @@
 use mathlib.Core.Path.{sym, ◌∙◌}
 use Rattle.std.proofs.lemmas.Result.{err_from_is_err_and}
 use Rattle.rules.specs.Names.{table_of, names_of}
-use Rattle.engine.specs.Entry.{entry-small}
+use Rattle.engine.proofs.Entry.{entry-small}
 use Rattle.engine.proofs.inner.enter.Goals as goal
 
 pub returns-in_err-is_set : goal.returns-in_err-is_set

@@ -7,7 +7,7 @@ use Rattle.std.proofs.lemmas.List.{length-map}
 use Rattle.rules.specs.Base.{collect}
 use Rattle.rules.specs.Writing.{writeBinding}
 use Rattle.rules.specs.Elimination.{Row, ◌gets◌, boundBy}
-use Rattle.types.specs.Written.{writes-none}
+use Rattle.types.proofs.Written.{writes-none}
 use Rattle.engine_matrix.specs.Told.{row_in}
 use Rattle.engine_matrix.specs.Machine.{colsIn, bound}
 use Rattle.engine.proofs.Factors.{parts-on, parts-done}

@@ -5,11 +5,12 @@ use Prim.Native.Nat.{ℕ}
 use Rattle.rules.specs.Exponents.{Exp, isZero}
 use Rattle.rules.specs.Trees.{Atom, ◌↑◌}
 use Rattle.rules.specs.Writing.{writeFactor}
-use Rattle.records.specs.Cut.{fits}
+use Rattle.records.proofs.Cut.{fits}
 use Rattle.records.specs.Views.{recOf}
 use Rattle.engine_matrix.specs.Told.{row_in}
-use Rattle.engine_matrix.specs.Machine.{colsIn, columns-few}
-use Rattle.engine_rows.specs.Atoms.{cols-long}
+use Rattle.engine_matrix.specs.Machine.{colsIn}
+use Rattle.engine_matrix.proofs.Machine.{columns-few}
+use Rattle.engine_rows.proofs.Atoms.{cols-long}
 use Rattle.engine.proofs.Factors.{putting-start, putting-skip, putting-put, putting-done}
 use Rattle.engine.proofs.inner.put_factors.Goals as goal
 

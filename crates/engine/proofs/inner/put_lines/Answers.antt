@@ -8,7 +8,7 @@ use Rattle.rules.specs.Base.{collect}
 use Rattle.rules.specs.Trees.{Con, is_scalar}
 use Rattle.rules.specs.Writing.{writeCon}
 use Rattle.rules.specs.Elimination.{Row, factors}
-use Rattle.types.specs.Written.{writes-none}
+use Rattle.types.proofs.Written.{writes-none}
 use Rattle.engine_matrix.specs.Told.{row_in}
 use Rattle.engine_matrix.specs.Machine.{colsIn, staying}
 use Rattle.engine.proofs.Factors.{parts-on, parts-done}

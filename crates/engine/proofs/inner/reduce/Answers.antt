@@ -5,10 +5,11 @@ use native.Mathlib.Omega.{arith}
 use Rattle.std.proofs.Common.{length-take-le}
 use Rattle.std.proofs.lemmas.Result.{err_from_is_err_and}
 use Rattle.rules.specs.Names.{table_of, names_of}
-use Rattle.engine_matrix.specs.Grids.{grid-long, rowsIn}
-use Rattle.engine_rows.specs.Columns.{listed-so}
-use Rattle.engine_rows.specs.Fitted.{all-plain}
-use Rattle.engine.specs.Reducing.{laid-unfit, names-unfit, set_known, all-reduced}
+use Rattle.engine_matrix.specs.Grids.{rowsIn}
+use Rattle.engine_matrix.proofs.Grids.{grid-long}
+use Rattle.engine_rows.proofs.Columns.{listed-so}
+use Rattle.engine_rows.proofs.Fitted.{all-plain}
+use Rattle.engine.proofs.Reducing.{laid-unfit, names-unfit, set_known, all-reduced}
 use Rattle.engine.proofs.inner.reduce.Goals as goal
 
 pub lines_of-requires : goal.lines_of-requires

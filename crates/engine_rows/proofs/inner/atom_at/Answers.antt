@@ -3,8 +3,9 @@ use mathlib.Core.Path.{ap, ◌∙◌, sym}
 use Prim.Native.Nat.{ℕ, ◌-◌}
 use native.Mathlib.Omega.{arith}
 use Rattle.rules.specs.Trees.{var, par, free, base}
-use Rattle.engine_matrix.specs.Machine.{namesIn, colsIn, names-long, variable-name}
-use Rattle.engine_rows.specs.Atoms.{column-variable, column-parameter, column-base, parameter-name, base-name}
+use Rattle.engine_matrix.specs.Machine.{namesIn, colsIn}
+use Rattle.engine_matrix.proofs.Machine.{names-long, variable-name}
+use Rattle.engine_rows.proofs.Atoms.{column-variable, column-parameter, column-base, parameter-name, base-name}
 use Rattle.engine_rows.proofs.inner.atom_at.Goals as goal
 
 pub returns-then-j-k : goal.returns-then-j-k

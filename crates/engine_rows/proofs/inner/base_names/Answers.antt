@@ -3,9 +3,10 @@ use Rattle.std.specs.Prelude.{option_to_list}
 use mathlib.Core.Path.{refl, sym, ap, ◌∙◌}
 use mathlib.Core.List.{[], ◌++◌, append_assoc, append-nil}
 use Prim.Native.Nat.{◌+◌}
-use Rattle.queries.specs.MarkLaws.{mark-none}
+use Rattle.queries.proofs.MarkLaws.{mark-none}
 use Rattle.queries.specs.Marks.{Has}
-use Rattle.engine_rows.specs.Columns.{basesView, basesIn, bases-none, bases-step}
+use Rattle.engine_rows.specs.Columns.{basesView, basesIn}
+use Rattle.engine_rows.proofs.Columns.{bases-none, bases-step}
 use Rattle.engine_rows.proofs.inner.base_names.Goals as goal
 use Rattle.engine_rows.proofs.inner.base_names.Goals.{in-Some, in_default}
 

@@ -5,10 +5,11 @@ use native.Mathlib.Omega.{arith}
 use Rattle.laws.specs.Lists.{Every}
 use Rattle.rules.specs.Trees.{Con}
 use Prim.Native.Nat.{ℕ}
-use Rattle.types.specs.Sets.{alone, placed-alone}
+use Rattle.types.proofs.OnSets.{alone, placed-alone}
 use Rattle.rules.specs.Elimination.{scalarOf}
 use Rattle.engine_matrix.specs.Machine.{colsIn}
-use Rattle.engine_rows.specs.Lines.{Plain, Going, going_start, not-asked, not_scalar, too_many, scalar-next, going_on, going_end}
+use Rattle.engine_rows.specs.Lines.{Plain}
+use Rattle.engine_rows.proofs.OnLines.{Going, going_start, not-asked, not_scalar, too_many, scalar-next, going_on, going_end}
 use Rattle.engine_rows.proofs.inner.lines_of.Goals as goal
 
 pub lines-init : goal.lines-init

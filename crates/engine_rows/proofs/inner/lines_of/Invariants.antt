@@ -2,10 +2,11 @@ use mathlib.Core.List.{List}
 use Prim.Native.Nat.{◌≤◌}
 use Rattle.rules.specs.Names.{Bytes}
 use Rattle.laws.specs.Lists.{Every}
-use Rattle.types.specs.Sets.{alone}
+use Rattle.types.proofs.OnSets.{alone}
 use Rattle.types.specs.Shapes.{cons_of}
 use Rattle.engine_matrix.specs.Machine.{colsIn}
-use Rattle.engine_rows.specs.Lines.{Plain, Going}
+use Rattle.engine_rows.specs.Lines.{Plain}
+use Rattle.engine_rows.proofs.OnLines.{Going}
 use Rattle.engine_rows.proofs.inner.lines_of.Given as goal
 
 abbrev pub invariant-lines : goal.invariant-lines

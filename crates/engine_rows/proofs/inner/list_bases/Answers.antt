@@ -4,7 +4,7 @@ use Rattle.rules.specs.Names.{table_of, names_of}
 use Rattle.laws.specs.ByteOrder.{numbered-lawful}
 use Rattle.laws.specs.NameTable.{good-laid, held_tells}
 use Rattle.records.specs.Good.{numbers}
-use Rattle.queries.specs.SortMarks.{marks-held, marks-sort}
+use Rattle.queries.proofs.SortMarks.{marks-held, marks-sort}
 use Rattle.engine_rows.specs.Columns.{basesIn}
 use Rattle.engine_rows.proofs.inner.list_bases.Goals as goal
 

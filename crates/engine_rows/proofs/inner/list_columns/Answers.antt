@@ -2,7 +2,7 @@
 use mathlib.Core.Path.{refl, sym}
 use Rattle.std.proofs.Common.{inl, inr}
 use native.Mathlib.Omega.{arith}
-use Rattle.engine_rows.specs.Columns.{too-many, filled-long, listed-well}
+use Rattle.engine_rows.proofs.Columns.{too-many, filled-long, listed-well}
 use Rattle.engine_rows.proofs.inner.list_columns.Goals as goal
 use Rattle.engine_rows.proofs.inner.list_columns.Goals.{
   then-variables-gt-ROWS-via-then-variables-gt-ROWS,

@@ -1,7 +1,7 @@
 -- `inner::power_in` meets its contract. The invariant: the atom isn't among the factors that were passed.
 use mathlib.Core.Path.{◌≡◌, refl, sym, ◌∙◌}
 use Rattle.std.proofs.Common.{rules}
-use Rattle.engine_rows.specs.Atoms.{power-met, power-passed, power-none}
+use Rattle.engine_rows.proofs.Atoms.{power-met, power-passed, power-none}
 use Rattle.engine_rows.proofs.inner.power_in.Goals as goal
 
 pub factors-init : goal.factors-init

@@ -11,8 +11,10 @@ use Rattle.rules.specs.Trees.{base}
 use Rattle.exponents.specs.Answers.{expOf}
 use Rattle.rules.specs.Elimination.{powerIn, row_of}
 use Rattle.engine_matrix.specs.Told.{row_in}
-use Rattle.engine_matrix.specs.Machine.{colsIn, columns-few}
-use Rattle.engine_rows.specs.Atoms.{padded, one_more, cols-long, row_at, row-long, power-good}
+use Rattle.engine_matrix.specs.Machine.{colsIn}
+use Rattle.engine_matrix.proofs.Machine.{columns-few}
+use Rattle.engine_rows.specs.Atoms.{padded}
+use Rattle.engine_rows.proofs.Atoms.{one_more, cols-long, row_at, row-long, power-good}
 use Rattle.engine_rows.proofs.inner.row_of.Goals as goal
 
 pub loop-j-init : goal.loop-j-init

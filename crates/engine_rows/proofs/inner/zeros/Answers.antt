@@ -1,8 +1,8 @@
 -- `inner::zeros` meets its contract.
 use mathlib.Core.Path.{refl}
-use Rattle.laws.specs.Ranges.{nought-good}
+use Rattle.laws.proofs.Ranges.{nought-good}
 use Rattle.engine_matrix.specs.Powers.{powersIn}
-use Rattle.engine_rows.specs.Atoms.{good-copies}
+use Rattle.engine_rows.proofs.Atoms.{good-copies}
 use Rattle.engine_rows.proofs.inner.zeros.Goals as goal
 
 pub invariant_of-result : goal.invariant_of-result

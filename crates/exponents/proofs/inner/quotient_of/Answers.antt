@@ -1,5 +1,5 @@
 -- The inverse is well formed again.
-use Rattle.laws.specs.Ranges.{inverted-good}
+use Rattle.laws.proofs.Ranges.{inverted-good}
 use Rattle.exponents.proofs.inner.quotient_of.Goals as goal
 
 pub product_of-requires : goal.product_of-requires

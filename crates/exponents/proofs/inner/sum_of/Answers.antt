@@ -4,7 +4,7 @@ use mir.Val.{SFits}
 use Rattle.std.proofs.Common.{rules}
 use Rattle.std.proofs.lemmas.Int.{to_z-of_z}
 use Rattle.rules.specs.Exponents.{sum, plus}
-use Rattle.laws.specs.Ranges.{Good, good}
+use Rattle.laws.proofs.Ranges.{Good, good}
 use Rattle.exponents.proofs.Steps.{product-fits, sum-fits}
 use Rattle.exponents.proofs.inner.sum_of.Goals as goal
 

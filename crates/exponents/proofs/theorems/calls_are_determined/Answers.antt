@@ -1,5 +1,5 @@
 use mathlib.Core.Path.{sym, ◌∙◌}
-use Rattle.exponents.specs.Determined.{exp-injective, determined}
+use Rattle.exponents.proofs.Determined.{exp-injective, determined}
 use Rattle.exponents.proofs.theorems.calls_are_determined.Goals as goal
 
 pub returns : goal.returns

@@ -1,4 +1,4 @@
-use Rattle.exponents.specs.Determined.{numbered}
+use Rattle.exponents.proofs.Determined.{numbered}
 use Rattle.exponents.proofs.theorems.calls_are_numbered.Goals as goal
 
 pub returns : goal.returns

@@ -5,7 +5,7 @@ use Prim.Native.Nat.{◌/◌}
 use lib.ListN.{length}
 use Rattle.rules.specs.Writing.{word_of}
 use Rattle.records.specs.Good.{Chained, GoodBound}
-use Rattle.judge.specs.Entry.{not-whole, not_good, not-rising, are-rising}
+use Rattle.judge.proofs.Entry.{not-whole, not_good, not-rising, are-rising}
 use Rattle.judge.proofs.inner.bounds_given.Goals as goal
 
 pub returns-then-bounds-ne0 : goal.returns-then-bounds-ne0

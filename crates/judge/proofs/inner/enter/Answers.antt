@@ -1,6 +1,6 @@
 use mathlib.Core.Path.{◌∙◌}
 use native.Mathlib.Omega.{arith}
-use Rattle.judge.specs.Entry.{types_long, bounds-long, many-long, set-left}
+use Rattle.judge.proofs.Entry.{types_long, bounds-long, many-long, set-left}
 use Rattle.judge.proofs.inner.enter.Goals as goal
 use Rattle.judge.proofs.inner.enter.Goals.{
   then-proposal-gt-RECORD_WORDS-via-then-proposal-gt-RECORD_WORDS,

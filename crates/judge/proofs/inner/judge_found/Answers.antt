@@ -3,7 +3,7 @@ use Rattle.std.specs.Prelude.{map}
 use Rattle.std.proofs.Common.{arith}
 use Rattle.rules.specs.Trees.{var}
 use Rattle.judge_trials.proofs.Failing.{verdict}
-use Rattle.judge.specs.Found.{ends-in, listed, put-in, marked}
+use Rattle.judge.proofs.Found.{ends-in, listed, put-in, marked}
 use Rattle.judge.proofs.inner.judge_found.Goals as goal
 
 pub overflow_mul-from : goal.overflow_mul-from

@@ -3,7 +3,7 @@ use mathlib.Core.Path.{◌∙◌}
 use native.Mathlib.Omega.{arith}
 use Rattle.std.proofs.lemmas.Result.{err_from_is_err_and}
 use Rattle.types.specs.Given.{constraints_in}
-use Rattle.judge.specs.Entry.{came-in, kept_out}
+use Rattle.judge.proofs.Entry.{came-in, kept_out}
 use Rattle.judge.proofs.inner.judge_set.Goals as goal
 
 pub judge_rest-requires : goal.judge_rest-requires

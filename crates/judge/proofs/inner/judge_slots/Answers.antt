@@ -4,7 +4,7 @@ use mathlib.Core.Bool.{Bool}
 use Rattle.std.specs.Prelude.{Err}
 use Rattle.rules.specs.Base.{need}
 use Rattle.rules.specs.declared.Refusal.TheVariants.{ShortBuffer}
-use Rattle.judge.specs.Entry.{call-short, called, all-lent, tested}
+use Rattle.judge.proofs.Entry.{call-short, called, all-lent, tested}
 use Rattle.judge.proofs.inner.judge_slots.Goals as goal
 
 pub returns-then-not-lent : goal.returns-then-not-lent

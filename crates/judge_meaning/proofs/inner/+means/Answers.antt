@@ -2,7 +2,7 @@
 use Rattle.std.specs.Prelude.{[]}
 use Rattle.std.proofs.Common.{arith, ne_eqb, rules}
 use Rattle.rules.specs.Names.{numbered}
-use Rattle.types.specs.Puts.{falls}
+use Rattle.types.proofs.Puts.{falls}
 use Rattle.judge_meaning.proofs.Arms.{
   tells,
   by-read,

@@ -1,7 +1,7 @@
 use Rattle.std.proofs.Common.{refl, ap, ◌∙◌, arith}
 use Rattle.std.proofs.lemmas.Result.{err_from_is_err_and}
-use Rattle.types.specs.Sets.{alone, placed-alone}
-use Rattle.judge_trials.specs.Trials.{going_start, going_end, first-good, count-few, going-refused, going-no, going_on, same-look, plain-look}
+use Rattle.types.proofs.OnSets.{alone, placed-alone}
+use Rattle.judge_trials.proofs.Trials.{going_start, going_end, first-good, count-few, going-refused, going-no, going_on, same-look, plain-look}
 use Rattle.judge_trials.proofs.inner.first_failing.Goals as goal
 
 pub invariant_of-c-items : goal.invariant_of-c-items

@@ -1,9 +1,10 @@
 use Rattle.std.proofs.Common.{◌≡◌, List, ℕ, length}
 use Rattle.rules.specs.Trees.{Con, Binding}
 use Rattle.queries.specs.Marks.{Has}
-use Rattle.types.specs.Sets.{alone}
+use Rattle.types.proofs.OnSets.{alone}
 use Rattle.types.specs.Shapes.{cons_of}
-use Rattle.judge_trials.specs.Trials.{SetThere, Put, Going}
+use Rattle.judge_trials.specs.Trials.{SetThere, Put}
+use Rattle.judge_trials.proofs.Trials.{Going}
 use Rattle.judge_trials.proofs.inner.first_failing.Given as goal
 
 abbrev pub invariant-search : goal.invariant-search

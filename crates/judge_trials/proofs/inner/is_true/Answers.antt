@@ -1,8 +1,8 @@
 use Rattle.std.proofs.Common.{refl, arith, length-take-le}
-use Rattle.laws.specs.Weaker.{con-weaker}
+use Rattle.laws.proofs.Weaker.{con-weaker}
 use Rattle.records.specs.Good.{numbers, holding}
-use Rattle.replace.specs.Came.{came, stopped}
-use Rattle.judge_trials.specs.Trials.{written, tried, fails}
+use Rattle.replace.proofs.Came.{came, stopped}
+use Rattle.judge_trials.proofs.Trials.{written, tried, fails}
 use Rattle.judge_trials.proofs.inner.is_true.Goals as goal
 
 pub replace_constraint-requires : goal.replace_constraint-requires

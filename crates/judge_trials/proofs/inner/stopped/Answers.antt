@@ -1,6 +1,6 @@
 -- `inner::stopped` meets its contract.
 use mathlib.Core.Path.{sym, ◌∙◌}
-use Rattle.judge_trials.specs.Trials.{six, not-six}
+use Rattle.judge_trials.proofs.Trials.{six, not-six}
 use Rattle.judge_trials.proofs.inner.stopped.Goals as goal
 
 pub returns-then-number-eq6 : goal.returns-then-number-eq6

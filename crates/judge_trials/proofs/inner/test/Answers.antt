@@ -1,4 +1,4 @@
-use Rattle.judge_trials.specs.Trials.{long, deep, flat}
+use Rattle.judge_trials.proofs.Trials.{long, deep, flat}
 use Rattle.judge_trials.proofs.inner.test.Goals as goal
 
 pub returns-then-n-gt-RECORDS : goal.returns-then-n-gt-RECORDS

@@ -4,7 +4,7 @@ use mathlib.Core.List.{List}
 use Prim.Native.Nat.{ℕ}
 use lib.ListN.{length}
 use Rattle.calls_defined.specs.Saying.{word}
-use Rattle.library_words.specs.Placing.{placed-held, placed-nowhere}
+use Rattle.library_words.proofs.OnPlacing.{placed-held, placed-nowhere}
 use Rattle.library_words.proofs.placing.placed.Goals as goal
 
 pub returns-in-Ok : goal.returns-in-Ok

@@ -1,8 +1,8 @@
 -- `inner::confirm` meets its contract.
 use Rattle.std.specs.Prelude.{Ok}
 use Rattle.std.proofs.Common.{ap, ◌∙◌, arith}
-use Rattle.judge.specs.Found.{listed}
-use Rattle.lines.specs.Typed.{judged-yes, judged-no, judged-refused}
+use Rattle.judge.proofs.Found.{listed}
+use Rattle.lines.proofs.Typed.{judged-yes, judged-no, judged-refused}
 use Rattle.lines.proofs.inner.confirm.Goals as goal
 
 pub judge_found-requires : goal.judge_found-requires

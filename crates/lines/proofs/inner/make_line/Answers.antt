@@ -3,7 +3,7 @@ use Rattle.std.proofs.Common.{sym, ap, ◌∙◌}
 use Rattle.std.proofs.lemmas.Result.{err_from_is_err_and}
 use Rattle.rules.specs.Refusals.{toldBy}
 use Rattle.lines_entry.specs.Told.{stepsOf}
-use Rattle.lines.specs.Whole.{came, line_made, refused-line, no-table}
+use Rattle.lines.proofs.Whole.{came, line_made, refused-line, no-table}
 use Rattle.lines.proofs.inner.make_line.Goals as goal
 
 pub type_line-requires : goal.type_line-requires

@@ -1,6 +1,6 @@
 -- `inner::put_type` meets its contract.
 use native.Mathlib.Omega.{arith}
-use Rattle.lines.specs.Typed.{place-known, typed-bound, typed_free}
+use Rattle.lines.proofs.Typed.{place-known, typed-bound, typed_free}
 use Rattle.lines.proofs.inner.put_type.Goals as goal
 
 pub copy-requires : goal.copy-requires

@@ -5,7 +5,7 @@ use mathlib.Core.Bool.{true}
 use Prim.Native.Nat.{ℕ}
 use native.Mathlib.Omega.{arith}
 use lib.ListN.{length, length-replicate}
-use Rattle.lines.specs.Standing.{set-small, begun}
+use Rattle.lines.proofs.Standing.{set-small, begun}
 use Rattle.lines.proofs.Settled.{accepts, remains, stops, mixed-made, refused-settled, found-well, judged-settled}
 use Rattle.lines.proofs.inner.settle.Goals as goal
 

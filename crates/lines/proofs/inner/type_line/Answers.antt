@@ -3,9 +3,9 @@ use native.Mathlib.Omega.{arith}
 use Rattle.std.proofs.Common.{refl, rules}
 use lib.ListN.{length-replicate}
 use Prim.Native.Nat.{ℕ}
-use Rattle.lines_entry.specs.Told.{steps-long}
-use Rattle.lines.specs.Standing.{set-stands, set-large}
-use Rattle.lines.specs.Whole.{cs-good, cs-flat, step-there, type-made, large-made}
+use Rattle.lines_entry.proofs.Told.{steps-long}
+use Rattle.lines.proofs.Standing.{set-stands, set-large}
+use Rattle.lines.proofs.Whole.{cs-good, cs-flat, step-there, type-made, large-made}
 use Rattle.lines.proofs.inner.type_line.Goals as goal
 
 pub returns-then-n-gt-RECORDS : goal.returns-then-n-gt-RECORDS

@@ -5,7 +5,7 @@ use Rattle.rules.specs.Base.{need}
 use Rattle.rules.specs.Refusals.{toldBy}
 use Rattle.std.proofs.lemmas.Result.{err_from_is_err_and}
 use Rattle.lines_entry.specs.Told.{stepsOf}
-use Rattle.lines_entry.specs.Entered.{enter-long, enter-refused, enter-form, enter-used, enter-unheld, enter-all, its-short}
+use Rattle.lines_entry.proofs.Entered.{enter-long, enter-refused, enter-form, enter-used, enter-unheld, enter-all, its-short}
 use Rattle.lines_entry.proofs.inner.enter_line.Goals as goal
 
 pub returns-then-not-short : goal.returns-then-not-short

@@ -5,7 +5,7 @@ use native.Mathlib.Omega.{arith}
 use lib.ListN.{length}
 use Rattle.rules.specs.Names.{table_of, names_of}
 use Rattle.laws.specs.NameTable.{length-names}
-use Rattle.names.specs.Digests.{one-here, none_here, none-behind}
+use Rattle.names.proofs.Digests.{one-here, none_here, none-behind}
 use Rattle.names.proofs.inner.held_again.Goals as goal
 
 pub returns-then-same_held : goal.returns-then-same_held

@@ -8,7 +8,8 @@ use native.Mathlib.Omega.{arith}
 use borrow.Author.Tests.{lt-ltb, le-ltb, le-leb, lt-leb}
 use lib.ListN.{length, drop, get_or}
 use Rattle.rules.specs.Names.{lengthsGood}
-use Rattle.laws.specs.NameTable.{endsOf, ends-step, ends-end}
+use Rattle.laws.specs.NameTable.{endsOf}
+use Rattle.laws.proofs.NameTable.{ends-step, ends-end}
 use Rattle.names.proofs.inner.lengths_good.Goals as goal
 use Rattle.names.proofs.inner.lengths_good.Goals.{then-end-at-via-then-end-at, then-end-at-via-else-end-at+then-end-at-gt-NAME_BYTES}
 

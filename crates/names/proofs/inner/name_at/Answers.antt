@@ -5,7 +5,8 @@ use Prim.Native.Nat.{ℕ, ◌≤◌, ◌<◌, ◌+◌}
 use native.Mathlib.Numerals.{add-one}
 use native.Mathlib.Omega.{arith}
 use lib.ListN.{length, get_or}
-use Rattle.laws.specs.NameTable.{start_at, Laid, placed, name-is}
+use Rattle.laws.specs.NameTable.{start_at, Laid}
+use Rattle.laws.proofs.NameTable.{placed, name-is}
 use Rattle.names.proofs.inner.name_at.Goals as goal
 
 -- the part lies within the pool

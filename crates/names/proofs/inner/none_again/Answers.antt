@@ -7,8 +7,9 @@ use native.Mathlib.Omega.{arith}
 use lib.ListN.{length, drop, get_or}
 use lib.Seq.{drop-cons}
 use Rattle.rules.specs.Names.{Bytes, table_of, names_of, distinct}
-use Rattle.laws.specs.NameTable.{length-names, names-end}
-use Rattle.names.specs.Digests.{repeated, fresh}
+use Rattle.laws.specs.NameTable.{length-names}
+use Rattle.laws.proofs.NameTable.{names-end}
+use Rattle.names.proofs.Digests.{repeated, fresh}
 use Rattle.names.proofs.inner.none_again.Goals as goal
 
 -- the names from this turn's on

@@ -2,7 +2,7 @@
 use mathlib.Core.Path.{◌≡◌, refl, ◌∙◌}
 use native.Mathlib.Omega.{arith}
 use lib.ListN.{get_or, length-set}
-use Rattle.names.specs.Digests.{digests-none, digests-more}
+use Rattle.names.proofs.Digests.{digests-none, digests-more}
 use Rattle.names.proofs.inner.put_digests.Goals as goal
 
 pub loop-k-init : goal.loop-k-init

@@ -1,7 +1,7 @@
 -- `names::inner::same_held` meets its contract: with two digests there are two names.
 use mathlib.Core.Path.{sym}
 use borrow.Author.Tests.{ne_eqb}
-use Rattle.names.specs.Digests.{apart}
+use Rattle.names.proofs.Digests.{apart}
 use Rattle.names.proofs.inner.same_held.Goals as goal
 
 pub returns-else-digests-i : goal.returns-else-digests-i

@@ -6,7 +6,8 @@ use native.Mathlib.Numerals.{add-one}
 use native.Mathlib.Omega.{arith}
 use lib.ListN.{drop, get_or}
 use Rattle.rules.specs.Names.{orderBytes, table_of, names_of, number_of}
-use Rattle.laws.specs.NameTable.{start_at, Laid, part_of, placed, names-step, names-end, search-hit, search-miss}
+use Rattle.laws.specs.NameTable.{start_at, Laid}
+use Rattle.laws.proofs.NameTable.{part_of, placed, names-step, names-end, search-hit, search-miss}
 use Rattle.names.specs.Told.{toldOrder}
 use Rattle.names.proofs.Compared.{hit, missed}
 use Rattle.names.proofs.inner.search.Goals as goal

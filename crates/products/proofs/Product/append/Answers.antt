@@ -7,9 +7,9 @@ use lib.ListN.{drop, length}
 use Rattle.rules.specs.Base.{got}
 use Rattle.rules.specs.Values.{productValue}
 use Rattle.products.specs.Told.{tree_of, productOf, factorAt, put_of}
-use Rattle.products.specs.Kinds.{value-back}
-use Rattle.products.specs.Places.{at_place, at-end}
-use Rattle.products.specs.Steps.{doing-put, doing-done, got-injective}
+use Rattle.products.proofs.OnKinds.{value-back}
+use Rattle.products.proofs.Places.{at_place, at-end}
+use Rattle.products.proofs.Steps.{doing-put, doing-done, got-injective}
 use Rattle.products.proofs.Product.append.Goals as goal
 
 pub loop-i-init : goal.loop-i-init

@@ -5,7 +5,7 @@ use lib.ListN.{drop, length}
 use Rattle.rules.specs.Base.{got}
 use Rattle.rules.specs.Values.{productValue}
 use Rattle.products.specs.Told.{Tree, given, productOf}
-use Rattle.products.specs.Steps.{Doing}
+use Rattle.products.proofs.Steps.{Doing}
 use Rattle.products.proofs.Product.append.Given as goal
 
 abbrev pub invariant-loop-i : goal.invariant-loop-i

@@ -1,6 +1,6 @@
 -- `products::inner::divided` meets its contract.
 use Rattle.rules.specs.Products.{divide}
-use Rattle.products.specs.Held.{well-sound, inverse-well}
+use Rattle.products.proofs.Held.{well-sound, inverse-well}
 use Rattle.products.proofs.inner.divided.Goals as goal
 
 pub inverted-requires : goal.inverted-requires

@@ -14,8 +14,9 @@ use Rattle.std.specs.declared.cmp.Ordering as std
 use Rattle.std.specs.declared.cmp.Ordering.TheVariants.{Less, Equal, Greater}
 use Rattle.names.specs.Told.{toldOrder}
 use Rattle.products.specs.Told.{atomAt, heldIn, factorAt, fine, isGot}
-use Rattle.products.specs.Kinds.{Fine, fine-facts, not-fine}
-use Rattle.products.specs.Held.{Seen, seen_none, seen_first, seen_more, seen-well, well-given, not_taken}
+use Rattle.products.specs.Kinds.{Fine}
+use Rattle.products.proofs.OnKinds.{fine-facts, not-fine}
+use Rattle.products.proofs.Held.{Seen, seen_none, seen_first, seen_more, seen-well, well-given, not_taken}
 use Rattle.products.proofs.inner.fits.Goals as goal
 
 -- the order is not less

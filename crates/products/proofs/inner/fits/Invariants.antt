@@ -1,7 +1,7 @@
 use mathlib.Core.Path.{◌≡◌}
 use Prim.Native.Nat.{◌-◌, ◌≤◌}
 use Rattle.products.specs.Told.{factorAt}
-use Rattle.products.specs.Held.{Seen}
+use Rattle.products.proofs.Held.{Seen}
 use Rattle.products.proofs.inner.fits.Given as goal
 
 abbrev pub invariant-loop-i : goal.invariant-loop-i

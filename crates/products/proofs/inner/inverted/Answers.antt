@@ -10,12 +10,12 @@ use Rattle.rules.specs.Exponents.{Exp}
 use Rattle.rules.specs.Products.{inverse}
 use Rattle.rules.specs.Trees.{◌↑◌}
 use Rattle.rules.specs.Values.{productValue, value_of}
-use Rattle.laws.specs.Ranges.{stored-good}
+use Rattle.laws.proofs.Ranges.{stored-good}
 use Rattle.products.specs.Told.{Tree, unread, atomAt, productOf, factorAt, withExp}
 use Rattle.products.specs.declared.Product.{Product}
-use Rattle.products.specs.Kinds.{value-back}
-use Rattle.products.specs.Places.{at_place, at-end}
-use Rattle.products.specs.Steps.{doing-start, doing-len, doing-put, doing-done, got-injective, inverse-turn, inverse-done}
+use Rattle.products.proofs.OnKinds.{value-back}
+use Rattle.products.proofs.Places.{at_place, at-end}
+use Rattle.products.proofs.Steps.{doing-start, doing-len, doing-put, doing-done, got-injective, inverse-turn, inverse-done}
 use Rattle.products.proofs.inner.inverted.Goals as goal
 
 -- the factor at a place, among those that count

@@ -2,7 +2,7 @@ use lib.ListN.{drop}
 use Rattle.rules.specs.Base.{got}
 use Rattle.rules.specs.Products.{inverse}
 use Rattle.products.specs.Told.{productOf}
-use Rattle.products.specs.Steps.{Doing}
+use Rattle.products.proofs.Steps.{Doing}
 use Rattle.products.proofs.inner.inverted.Given as goal
 
 abbrev pub invariant-loop-x : goal.invariant-loop-x

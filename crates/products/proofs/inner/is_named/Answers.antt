@@ -1,7 +1,7 @@
 -- `products::inner::is_named` meets its contract.
 use mathlib.Core.Path.{sym, ◌∙◌}
 use native.Mathlib.Omega.{arith}
-use Rattle.products.specs.Kinds.{named-held, named-index, no_kind}
+use Rattle.products.proofs.OnKinds.{named-held, named-index, no_kind}
 use Rattle.products.proofs.inner.is_named.Goals as goal
 
 pub returns-in-15 : goal.returns-in-15

@@ -1,6 +1,6 @@
 -- `products::inner::is_sound` meets its contract.
 use mathlib.Core.Path.{sym, ◌∙◌}
-use Rattle.products.specs.Kinds.{fine-by}
+use Rattle.products.proofs.OnKinds.{fine-by}
 use Rattle.products.proofs.inner.is_sound.Goals as goal
 
 pub returns-then-is_named : goal.returns-then-is_named

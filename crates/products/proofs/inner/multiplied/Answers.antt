@@ -11,15 +11,16 @@ use Rattle.rules.specs.Exponents.{Exp, sum}
 use Rattle.rules.specs.Names.{table_of, numbersOf}
 use Rattle.rules.specs.Products.{merge}
 use Rattle.rules.specs.Trees.{Names, orderAtom}
-use Rattle.laws.specs.Ranges.{stored-good}
+use Rattle.laws.proofs.Ranges.{stored-good}
 use Rattle.exponents.specs.Answers.{expOf}
 use Rattle.names.specs.Told.{toldOrder}
 use Rattle.products.specs.declared.Product.{Product}
 use Rattle.products.specs.Told.{atomAt, tree_of, productOf, factorAt, answer}
-use Rattle.products.specs.Kinds.{value-back}
-use Rattle.products.specs.Places.{at_place, at-end, length-product, given-len}
-use Rattle.products.specs.Held.{Well, well-sound}
-use Rattle.products.specs.Steps.{
+use Rattle.products.proofs.OnKinds.{value-back}
+use Rattle.products.proofs.Places.{at_place, at-end, length-product, given-len}
+use Rattle.products.specs.Held.{Well}
+use Rattle.products.proofs.Held.{well-sound}
+use Rattle.products.proofs.Steps.{
   prepend,
   doing-start,
   doing-len,

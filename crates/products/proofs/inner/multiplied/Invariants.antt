@@ -4,7 +4,7 @@ use Rattle.rules.specs.Base.{bounded}
 use Rattle.rules.specs.Names.{table_of, numbersOf}
 use Rattle.rules.specs.Products.{merge}
 use Rattle.products.specs.Told.{productOf}
-use Rattle.products.specs.Steps.{Doing}
+use Rattle.products.proofs.Steps.{Doing}
 use Rattle.products.proofs.inner.multiplied.Given as goal
 
 abbrev pub invariant-loop-i : goal.invariant-loop-i

@@ -8,7 +8,8 @@ use Rattle.rules.specs.Names.{then, table_of, numbersOf}
 use Rattle.rules.specs.Trees.{orderAtom}
 use Rattle.names.specs.Told.{toldOrder}
 use Rattle.products.specs.Told.{atomAt, heldIn, rank_of}
-use Rattle.products.specs.Kinds.{Fine, order-by}
+use Rattle.products.specs.Kinds.{Fine}
+use Rattle.products.proofs.OnKinds.{order-by}
 use Rattle.products.proofs.inner.order.Goals as goal
 
 pub returns-then-x-eq15 : goal.returns-then-x-eq15

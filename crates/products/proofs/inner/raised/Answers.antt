@@ -10,13 +10,13 @@ use Rattle.rules.specs.Exponents.{Exp, times}
 use Rattle.rules.specs.Names.{numbered}
 use Rattle.rules.specs.Products.{raise}
 use Rattle.rules.specs.Trees.{Names}
-use Rattle.laws.specs.Ranges.{stored-good}
+use Rattle.laws.proofs.Ranges.{stored-good}
 use Rattle.exponents.specs.Answers.{expOf}
 use Rattle.products.specs.declared.Product.{Product}
 use Rattle.products.specs.Told.{Tree, atomAt, productOf, factorAt, answer}
-use Rattle.products.specs.Places.{at_place, at-end}
+use Rattle.products.proofs.Places.{at_place, at-end}
 use Rattle.products.specs.Held.{Sound}
-use Rattle.products.specs.Steps.{doing-start, doing-len, doing-kept, doing-stop, doing-done, joined, raise-turn, raise-done}
+use Rattle.products.proofs.Steps.{doing-start, doing-len, doing-kept, doing-stop, doing-done, joined, raise-turn, raise-done}
 use Rattle.products.proofs.inner.raised.Goals as goal
 
 turn : (ν : Names ℕ) (a : Product) → Sound a → (k : Exp) (i : ℕ) → i < a.len → (s : Got Exp) → s ≡ times bounded (expOf (factorAt a i).exp) k

@@ -5,7 +5,7 @@ use Rattle.rules.specs.Products.{raise}
 use Rattle.rules.specs.Trees.{Names}
 use Rattle.exponents.specs.Answers.{expOf}
 use Rattle.products.specs.Told.{productOf}
-use Rattle.products.specs.Steps.{Doing}
+use Rattle.products.proofs.Steps.{Doing}
 use Rattle.products.proofs.inner.raised.Given as goal
 
 abbrev pub invariant-loop-i : goal.invariant-loop-i

@@ -1,5 +1,5 @@
 use mathlib.Core.Path.{sym, ◌∙◌}
-use Rattle.products.specs.Determined.{given-injective, determined}
+use Rattle.products.proofs.Determined.{given-injective, determined}
 use Rattle.products.proofs.theorems.calls_are_determined.Goals as goal
 
 pub returns : goal.returns

@@ -1,4 +1,4 @@
-use Rattle.products.specs.Determined.{numbered}
+use Rattle.products.proofs.Determined.{numbered}
 use Rattle.products.proofs.theorems.calls_are_numbered.Goals as goal
 
 pub returns : goal.returns

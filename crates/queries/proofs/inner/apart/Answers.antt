@@ -3,8 +3,8 @@ use mathlib.Core.Path.{◌∙◌}
 use mathlib.Core.List.{[], ◌++◌}
 use Rattle.queries.specs.declared.Kind.TheVariants.{Variables, Parameters}
 use Rattle.queries.specs.Scans.{choose, opensIn}
-use Rattle.queries.specs.ScanLaws.{choose-append}
-use Rattle.queries.specs.MarkLaws.{unmixed-marks}
+use Rattle.queries.proofs.ScanLaws.{choose-append}
+use Rattle.queries.proofs.MarkLaws.{unmixed-marks}
 use Rattle.queries.proofs.inner.apart.Goals as goal
 
 pub returns : goal.returns

@@ -2,7 +2,7 @@
 use mathlib.Core.Path.{refl, sym}
 use Rattle.rules.specs.Base.{collect}
 use Rattle.rules.specs.Contents.{variablesIn, parametersIn, namesIn}
-use Rattle.queries.specs.ScanLaws.{choose-quant}
+use Rattle.queries.proofs.ScanLaws.{choose-quant}
 use Rattle.queries.proofs.inner.chosen.Goals as goal
 
 pub returns-in-Variables : goal.returns-in-Variables

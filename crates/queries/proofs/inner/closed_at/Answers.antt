@@ -3,7 +3,7 @@ use mathlib.Core.Path.{ap, ◌∙◌}
 use Rattle.rules.specs.Base.{isNil}
 use Rattle.rules.specs.Contents.{closed}
 use Rattle.queries.specs.Scans.{opensIn}
-use Rattle.queries.specs.ScanLaws.{type-opens}
+use Rattle.queries.proofs.ScanLaws.{type-opens}
 use Rattle.queries.proofs.inner.closed_at.Goals as goal
 
 pub returns : goal.returns

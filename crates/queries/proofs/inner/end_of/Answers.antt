@@ -3,7 +3,7 @@ use Prim.Native.Nat.{ℕ, ◌+◌}
 use mathlib.Core.Path.{ap, ◌∙◌}
 use native.Mathlib.Omega.{arith}
 use Rattle.records.specs.ByView.{ends-in}
-use Rattle.records.specs.Holds.{holds-long}
+use Rattle.records.proofs.Holds.{holds-long}
 use Rattle.queries.proofs.inner.end_of.Goals as goal
 
 pub overflow_add-result : goal.overflow_add-result

@@ -5,7 +5,7 @@ use mathlib.Core.List.{◌++◌, append-nil}
 use Rattle.rules.specs.Names.{numbered}
 use Rattle.rules.specs.Contents.{unmixed}
 use Rattle.queries.specs.Scans.{opensIn}
-use Rattle.queries.specs.ScanLaws.{opens-none}
+use Rattle.queries.proofs.ScanLaws.{opens-none}
 use Rattle.queries.proofs.inner.is_unmixed.Goals as goal
 
 pub apart-requires : goal.apart-requires

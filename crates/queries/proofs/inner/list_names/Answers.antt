@@ -6,7 +6,7 @@ use Rattle.laws.specs.ByteOrder.{numbered-lawful}
 use Rattle.laws.specs.NameTable.{good-laid, held_tells}
 use Rattle.records.specs.Good.{numbers}
 use Rattle.queries.specs.Scans.{choose, opensIn}
-use Rattle.queries.specs.SortMarks.{marks-held, marks-sort}
+use Rattle.queries.proofs.SortMarks.{marks-held, marks-sort}
 use Rattle.queries.proofs.inner.list_names.Goals as goal
 
 pub write_sorted-requires : goal.write_sorted-requires

@@ -1,7 +1,7 @@
 -- `inner::name_at` meets its contract.
 use mathlib.Core.Path.{sym, ap, ◌∙◌}
 use Rattle.queries.specs.Scans.{choose, toldOpens}
-use Rattle.queries.specs.ScanLaws.{choose-none}
+use Rattle.queries.proofs.ScanLaws.{choose-none}
 use Rattle.queries.proofs.inner.name_at.Goals as goal
 
 pub returns-in-Some : goal.returns-in-Some

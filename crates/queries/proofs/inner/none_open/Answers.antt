@@ -1,7 +1,7 @@
 -- `inner::none_open` meets its contract. The invariant: the records from i on decide.
 use mathlib.Core.Path.{sym, ap, ◌∙◌}
 use Rattle.rules.specs.Base.{isNil}
-use Rattle.queries.specs.ScanLaws.{opens-none}
+use Rattle.queries.proofs.ScanLaws.{opens-none}
 use Rattle.queries.proofs.Others.{open-here, none-here}
 use Rattle.queries.proofs.inner.none_open.Goals as goal
 

@@ -3,7 +3,7 @@ use mathlib.Core.Path.{sym, ap, ◌∙◌}
 use lib.Dec.{eqb}
 use Rattle.rules.specs.Base.{any}
 use Rattle.queries.specs.Scans.{choose}
-use Rattle.queries.specs.ScanLaws.{opens-none, choose-none, any-hit, any-miss}
+use Rattle.queries.proofs.ScanLaws.{opens-none, choose-none, any-hit, any-miss}
 use Rattle.queries.proofs.Others.{name-is}
 use Rattle.queries.proofs.inner.occurs.Goals as goal
 

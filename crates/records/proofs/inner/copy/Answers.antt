@@ -2,7 +2,7 @@
 use mathlib.Core.Path.{sym, ap, ◌∙◌}
 use Prim.Native.Nat.{◌*◌}
 use lib.Seq.{sets}
-use Rattle.laws.specs.Entering.{drop-take}
+use Rattle.laws.proofs.Entering.{drop-take}
 use Rattle.records.proofs.inner.copy.Goals as goal
 
 pub returns : goal.returns

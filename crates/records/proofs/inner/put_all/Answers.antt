@@ -1,7 +1,7 @@
 -- `put_all` meets its contract.
 use mathlib.Core.Path.{sym}
 use native.Mathlib.Omega.{arith}
-use Rattle.records.specs.Stores.{sets-past, part-cut}
+use Rattle.records.proofs.Stores.{sets-past, part-cut}
 use Rattle.records.proofs.inner.put_all.Goals as goal
 
 pub returns-then-dst-i : goal.returns-then-dst-i

@@ -1,5 +1,5 @@
 -- `put_record` meets its contract: four stores.
-use Rattle.records.specs.Stores.{four}
+use Rattle.records.proofs.Stores.{four}
 use Rattle.rules.specs.Writing.{Rec, words}
 use lib.Seq.{sets}
 use Prim.Native.Nat.{◌*◌}

@@ -1,5 +1,5 @@
 -- `head_of` meets its contract.
-use Rattle.records.specs.Cut.{head-fits, head-unfits}
+use Rattle.records.proofs.Cut.{head-fits, head-unfits}
 use Rattle.records.proofs.seen.head_of.Goals as goal
 
 pub returns-then-n-le65535 : goal.returns-then-n-le65535

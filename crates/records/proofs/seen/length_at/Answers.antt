@@ -1,5 +1,6 @@
 -- `length_at` meets its contract.
-use Rattle.records.specs.Places.{long-none, long-some}
+use Rattle.records.specs.Places.{long-some}
+use Rattle.records.proofs.Places.{long-none}
 use Rattle.records.specs.Views.{longOf}
 use mathlib.Core.Path.{sym, ◌∙◌}
 use Rattle.records.proofs.seen.length_at.Goals as goal

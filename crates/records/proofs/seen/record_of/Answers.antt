@@ -1,6 +1,6 @@
 -- `record_of` meets its contract: a view's kind is below 65,536.
 use Rattle.records.specs.Cut.{fit}
-use Rattle.records.specs.Places.{kind_of, bare-kind}
+use Rattle.records.proofs.Places.{kind_of, bare-kind}
 use Rattle.records.specs.Views.{lengthened}
 use Rattle.rules.specs.Writing.{Rec, rec}
 use Prim.Native.Nat.{ℕ, ◌<◌}

@@ -1,7 +1,7 @@
 -- `inner::hand_over` meets its contract.
 use mathlib.Core.Path.{◌∙◌}
 use native.Mathlib.Omega.{arith}
-use Rattle.records_buffers.specs.Handed.{stood, copied, left}
+use Rattle.records_buffers.proofs.Handed.{stood, copied, left}
 use Rattle.records_buffers.proofs.inner.hand_over.Goals as goal
 use Rattle.records_buffers.proofs.inner.hand_over.Goals.{in-Ok, in_default}
 

@@ -1,5 +1,5 @@
 use Rattle.rules.specs.Calls.{replaceTypeCall, replaceSetCall}
-use Rattle.records_buffers.specs.Determined.{lent-numbered, written-numbered}
+use Rattle.records_buffers.proofs.Determined.{lent-numbered, written-numbered}
 use Rattle.records_buffers.proofs.theorems.calls_are_numbered.Goals as goal
 
 pub returns : goal.returns

@@ -11,7 +11,7 @@ use Rattle.records.specs.Found.{Words32}
 use Rattle.records.specs.Good.{goodCon}
 use Rattle.types.specs.Given.{constraints_in}
 use Rattle.types.proofs.Tested.{given, same_table}
-use Rattle.records_buffers.specs.Handed.{made-refused}
+use Rattle.records_buffers.proofs.Handed.{made-refused}
 use Rattle.replace_calls.specs.Made.{madeSet}
 use Rattle.replace_calls.proofs.Checks.{second-too-long, first-stops, second-stops, asked-apart}
 use Rattle.replace_calls.proofs.Whole.{as-made, set-opened, bindings-opened, set-both}

@@ -3,8 +3,8 @@ use Rattle.std.proofs.Common.{refl, rules, arith}
 use Rattle.rules.specs.Base.{sum_of, max_of, collect}
 use Rattle.rules.specs.Trees.{sizeCon, depthCon}
 use Rattle.rules.specs.Writing.{writeCon}
-use Rattle.laws.specs.Size.{set-length}
-use Rattle.replace.specs.Came.{came}
+use Rattle.laws.proofs.Size.{set-length}
+use Rattle.replace.proofs.Came.{came}
 use Rattle.replace_calls.proofs.Making.{listed, set-good, set-left, set-stands, set-made, made-to, made-stop, short-set}
 use Rattle.replace_calls.proofs.inner.set_into.Goals as goal
 

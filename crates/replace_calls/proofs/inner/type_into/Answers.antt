@@ -2,9 +2,9 @@
 use Rattle.std.proofs.Common.{refl, rules, arith}
 use Rattle.rules.specs.Trees.{size, depth}
 use Rattle.rules.specs.Writing.{writeTy}
-use Rattle.laws.specs.Size.{size-ty}
-use Rattle.records.specs.Cut.{short-ty}
-use Rattle.replace.specs.Came.{came}
+use Rattle.laws.proofs.Size.{size-ty}
+use Rattle.records.proofs.Cut.{short-ty}
+use Rattle.replace.proofs.Came.{came}
 use Rattle.replace_calls.proofs.Making.{listed, type-good, type-left, type-stands, made-to, made-stop}
 use Rattle.replace_calls.proofs.inner.type_into.Goals as goal
 

@@ -4,7 +4,7 @@ use Prim.Native.Nat.{ℕ}
 use native.Mathlib.Omega.{arith}
 use lib.ListN.{length, length-replicate}
 use Rattle.rules.specs.Names.{names_of, table_of}
-use Rattle.replace_table.specs.Filling.{going_start, first, further, going_on, going_end, filled}
+use Rattle.replace_table.proofs.Filling.{going_start, first, further, going_on, going_end, filled}
 use Rattle.replace_table.proofs.inner.fill.Goals as goal
 
 pub loop-i-init : goal.loop-i-init

@@ -4,7 +4,7 @@ use Prim.Native.Nat.{ℕ, ◌-◌}
 use lib.ListN.{length}
 use Rattle.rules.specs.Trees.{Binding}
 use Rattle.types.specs.Binds.{IsBinds}
-use Rattle.replace_table.specs.Filling.{Going}
+use Rattle.replace_table.proofs.Filling.{Going}
 use Rattle.replace_table.proofs.inner.fill.Given as goal
 
 abbrev pub invariant-loop-i : goal.invariant-loop-i

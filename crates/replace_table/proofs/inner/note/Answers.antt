@@ -3,7 +3,7 @@ use mathlib.Core.Path.{◌≡◌, sym, ap, ◌∙◌}
 use Prim.Native.Nat.{ℕ, ◌+◌}
 use lib.ListN.{get_or, set}
 use Rattle.records.specs.declared.View.TheVariants as view
-use Rattle.replace_table.specs.Filling.{noted-first, noted-before}
+use Rattle.replace_table.proofs.Filling.{noted-first, noted-before}
 use Rattle.replace_table.proofs.inner.note.Goals as goal
 
 pub returns-then-word_at-eq0 : goal.returns-then-word_at-eq0

@@ -6,7 +6,7 @@ use mathlib.Core.List.{List}
 use lib.ListN.{length}
 use Rattle.records.specs.Good.{Ends, GoodCon}
 use Rattle.std.specs.Prelude.{Some}
-use Rattle.records.specs.Moves.{con-moves}
+use Rattle.records.proofs.Moves.{con-moves}
 use Rattle.rescue.proofs.Steps.{left-start, left-sound, left-lost, left-done}
 use Rattle.records.specs.Found.{Words32}
 use Rattle.rules.specs.Trees.{Con}

@@ -1,5 +1,5 @@
 use Rattle.rules.specs.Calls.{quantifyCall, generaliseCall, instantiateCall}
-use Rattle.records_buffers.specs.Determined.{written-determined}
+use Rattle.records_buffers.proofs.Determined.{written-determined}
 use Rattle.schemes.proofs.theorems.calls_are_determined.Goals as goal
 
 pub returns : goal.returns

@@ -1,5 +1,5 @@
 use Rattle.rules.specs.Calls.{quantifyCall, generaliseCall, instantiateCall}
-use Rattle.records_buffers.specs.Determined.{written-numbered}
+use Rattle.records_buffers.proofs.Determined.{written-numbered}
 use Rattle.schemes.proofs.theorems.calls_are_numbered.Goals as goal
 
 pub returns : goal.returns

@@ -1,5 +1,5 @@
 use Rattle.std.proofs.Common.{refl}
-use Rattle.solve.specs.Running.{begun-state}
+use Rattle.solve.proofs.Running.{begun-state}
 use Rattle.solve.proofs.inner.begin.Goals as goal
 
 pub returns : goal.returns

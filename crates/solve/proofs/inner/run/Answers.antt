@@ -9,7 +9,7 @@ use Rattle.rules.specs.declared.Refusal.{Refusal}
 use Rattle.solve_round.specs.declared.After.{After}
 use Rattle.solve_round.specs.declared.Place.{Place}
 use Rattle.solve_round.specs.States.{Placed, Rounded}
-use Rattle.solve.specs.Running.{going-first, going-here, going-written, going_end, going-stop, finish-answers, stop-answers}
+use Rattle.solve.proofs.Running.{going-first, going-here, going-written, going_end, going-stop, finish-answers, stop-answers}
 use Rattle.solve.proofs.inner.run.Goals as goal
 
 -- a buffer that is lent on whole is all of its words

@@ -1,7 +1,8 @@
 use Rattle.std.proofs.Common.{◌≡◌, List, ℕ, suc, ◌-◌, length}
 use Rattle.rules.specs.Solving.{enough}
 use Rattle.rules.specs.Trees.{Con}
-use Rattle.solve.specs.Running.{Begun, Going}
+use Rattle.solve.specs.Running.{Begun}
+use Rattle.solve.proofs.Running.{Going}
 use Rattle.solve.proofs.inner.run.Given as goal
 
 abbrev pub invariant-turns : goal.invariant-turns

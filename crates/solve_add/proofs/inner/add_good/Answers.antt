@@ -2,7 +2,7 @@
 use Rattle.std.proofs.Common.{sym, ap, ◌∙◌}
 use Rattle.rules.specs.Names.{numbered}
 use Rattle.solve_add.specs.Told.{toldVerdict}
-use Rattle.solve_add.specs.Stored.{kept, full, appended}
+use Rattle.solve_add.proofs.Stored.{kept, full, appended}
 use Rattle.solve_add.proofs.Others.{not-satisfied}
 use Rattle.solve_add.proofs.inner.add_good.Goals as goal
 

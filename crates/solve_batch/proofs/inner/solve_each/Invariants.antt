@@ -1,7 +1,7 @@
 use Rattle.std.specs.Prelude.{◌≡◌, ◌≤◌, length}
 use Rattle.rules.specs.Calls.{solvedSet}
 use Rattle.types.specs.Given.{call_over}
-use Rattle.solve_batch.specs.Steps.{Doing}
+use Rattle.solve_batch.proofs.Steps.{Doing}
 use Rattle.solve_batch.proofs.inner.solve_each.Given as goal
 
 abbrev pub invariant-sets : goal.invariant-sets

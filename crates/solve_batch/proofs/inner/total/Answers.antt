@@ -2,7 +2,7 @@
 use native.Mathlib.Omega.{arith}
 use lib.ListN.{drop_of_length-le}
 use Rattle.rules.specs.Base.{sum_of}
-use Rattle.solve_batch.specs.Steps.{rest_sum}
+use Rattle.solve_batch.proofs.Steps.{rest_sum}
 use mathlib.Core.Path.{ap}
 use Rattle.solve_batch.proofs.inner.total.Goals as goal
 

@@ -1,4 +1,4 @@
-use Rattle.types.specs.Sets.{alone}
+use Rattle.types.proofs.OnSets.{alone}
 use Rattle.types.specs.Shapes.{cons_of}
 use Rattle.solve_conflict.proofs.Loops.{Putting}
 use Rattle.solve_conflict.proofs.inner.put_standing.Given as goal

@@ -1,7 +1,7 @@
 use Rattle.std.proofs.Common.{◌∙◌}
 use Rattle.std.proofs.lemmas.Result.{err_from_is_err_and}
-use Rattle.replace.specs.Kept.{binds-weaker}
-use Rattle.replace.specs.Came.{came, stopped}
+use Rattle.replace.proofs.Kept.{binds-weaker}
+use Rattle.replace.proofs.Came.{came, stopped}
 use Rattle.solve_round.proofs.Rebinding.{others-stop, bindings-stop, rebound, rebinds-is, known, rebind-made}
 use Rattle.solve_round.proofs.Written.{limited-turned, next-stops}
 use Rattle.solve_round.proofs.inner.rebind.Goals as goal

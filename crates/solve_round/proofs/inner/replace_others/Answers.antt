@@ -1,6 +1,6 @@
 use Rattle.std.proofs.lemmas.Result.{err_from_is_err_and}
-use Rattle.replace.specs.Came.{came, stopped}
-use Rattle.replace.specs.Kept.{cons-weaker}
+use Rattle.replace.proofs.Came.{came, stopped}
+use Rattle.replace.proofs.Kept.{cons-weaker}
 use Rattle.replace.specs.Leaves.{conBy}
 use Rattle.solve_round.proofs.Rebinding.{both-written, first-stops}
 use Rattle.solve_round.proofs.inner.replace_others.Goals as goal

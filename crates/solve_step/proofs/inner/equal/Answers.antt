@@ -1,7 +1,7 @@
 use Rattle.std.proofs.Common.{arith, sym, ◌∙◌}
 use Rattle.rules.specs.Names.{numbered, names_of, table_of}
 use Rattle.rules.specs.Trees.{sizeBinding}
-use Rattle.types.specs.Puts.{short}
+use Rattle.types.proofs.Puts.{short}
 use Rattle.solve_step.proofs.Rules.{same-records, bound-first, none-bound}
 use Rattle.solve_step.proofs.Short.{first-long}
 use Rattle.solve_step.proofs.Written.{applied-as, bind-is, done-is, bind-written}

@@ -1,7 +1,7 @@
 -- `inner::line_end` meets its contract: no line feed so far.
 use Rattle.std.specs.Prelude.{◌≡◌, length}
 use Rattle.std.proofs.Common.{arith}
-use Rattle.text_columns.specs.Cut.{starts, goes_on, at-feed, at-end}
+use Rattle.text_columns.proofs.Cut.{starts, goes_on, at-feed, at-end}
 use Rattle.text_columns.proofs.inner.line_end.Goals as goal
 
 pub loop-i-init : goal.loop-i-init

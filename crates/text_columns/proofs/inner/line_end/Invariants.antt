@@ -1,4 +1,4 @@
-use Rattle.text_columns.specs.Cut.{Flat}
+use Rattle.text_columns.proofs.Cut.{Flat}
 use Rattle.text_columns.proofs.inner.line_end.Given as goal
 
 abbrev pub invariant-loop-i : goal.invariant-loop-i

@@ -1,7 +1,7 @@
 -- `inner::enter_atom` meets its contract.
-use Rattle.text_names.specs.Effects.{ready_on}
-use Rattle.text_names.specs.Inside.{inside-column, inside-spelled}
-use Rattle.text_dimensions.specs.Atoms.{atom-done, no-atom}
+use Rattle.text_names.proofs.Effects.{ready_on}
+use Rattle.text_names.proofs.Inside.{inside-column, inside-spelled}
+use Rattle.text_dimensions.proofs.Atoms.{atom-done, no-atom}
 use Rattle.text_dimensions.proofs.inner.enter_atom.Goals as goal
 
 pub returns-then-kind-eq0 : goal.returns-then-kind-eq0

@@ -3,7 +3,7 @@ use mathlib.Core.Path.{sym, ap, ◌∙◌}
 use Rattle.rules.specs.Exponents.{goodExp}
 use Rattle.exponents.specs.Answers.{expOf}
 use Rattle.exponents.specs.declared.Exponent.{Exponent}
-use Rattle.text_dimensions.specs.Powers.{told-good, unit-good, power-done, no_power}
+use Rattle.text_dimensions.proofs.Powers.{told-good, unit-good, power-done, no_power}
 use Rattle.text_dimensions.proofs.inner.enter_power.Goals as goal
 
 pub returns-then-next_is : goal.returns-then-next_is

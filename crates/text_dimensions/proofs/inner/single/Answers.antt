@@ -2,8 +2,8 @@
 use mathlib.Core.Path.{sym, ◌∙◌}
 use mathlib.Core.List.{[]}
 use native.Mathlib.Omega.{arith}
-use Rattle.products.specs.Places.{given-len}
-use Rattle.text_dimensions.specs.Times.{single-zero, single-put}
+use Rattle.products.proofs.Places.{given-len}
+use Rattle.text_dimensions.proofs.Times.{single-zero, single-put}
 use Rattle.text_dimensions.proofs.inner.single.Goals as goal
 
 pub returns-then-is_zero : goal.returns-then-is_zero

@@ -1,5 +1,5 @@
 -- `inner::times` meets its contract.
-use Rattle.text_dimensions.specs.Times.{single-well, times-stays, times-done, times-refused}
+use Rattle.text_dimensions.proofs.Times.{single-well, times-stays, times-done, times-refused}
 use Rattle.text_dimensions.proofs.inner.times.Goals as goal
 
 pub single-requires : goal.single-requires

@@ -1,7 +1,7 @@
 -- `inner::lowest_of` meets its contract.
 use mathlib.Core.Path.{sym, ap, ◌∙◌}
-use Rattle.text_grammar.specs.Values.{word_good, words-quotient}
-use Rattle.laws.specs.Lists.{got≢refused}
+use Rattle.text_grammar.proofs.Values.{word_good, words-quotient}
+use Rattle.laws.proofs.Lists.{got≢refused}
 use Rattle.rules.specs.Refusals.{toldBy}
 use Rattle.exponents.specs.Answers.{expOf}
 use Rattle.text_grammar.proofs.inner.lowest_of.Goals as goal

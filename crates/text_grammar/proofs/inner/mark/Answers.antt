@@ -1,6 +1,7 @@
 -- `inner::mark` meets its contract.
 use Rattle.std.proofs.Common.{arith}
-use Rattle.text_grammar.specs.Points.{marked, stays, none_left, marks-past, mark-end, mark-other, mark-there}
+use Rattle.text_grammar.specs.Points.{marked}
+use Rattle.text_grammar.proofs.Points.{stays, none_left, marks-past, mark-end, mark-other, mark-there}
 use Rattle.text_grammar.proofs.inner.mark.Goals as goal
 use Rattle.text_grammar.proofs.inner.mark.Goals.{else-i-line-via-then-i-line+else-line-i, else-i-line-via-else-i-line}
 

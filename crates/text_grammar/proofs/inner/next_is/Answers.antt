@@ -1,7 +1,7 @@
 -- `inner::next_is` meets its contract.
 use Rattle.std.proofs.Common.{◌≡◌, ◌∙◌, false, length, arith, nat_lt}
 use Rattle.std.proofs.lemmas.Bool.Decides.{nat_tests}
-use Rattle.text_grammar.specs.Points.{begins-so, begins-not, none_begins}
+use Rattle.text_grammar.proofs.Points.{begins-so, begins-not, none_begins}
 use Rattle.text_grammar.proofs.inner.next_is.Goals as goal
 
 pub returns-in_default : goal.returns-in_default

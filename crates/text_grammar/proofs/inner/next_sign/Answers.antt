@@ -1,6 +1,6 @@
 -- `inner::next_sign` meets its contract.
 use Rattle.rules.specs.Grammar.{column}
-use Rattle.text_grammar.specs.Points.{sign-there, stays, no_column, column-past}
+use Rattle.text_grammar.proofs.Points.{sign-there, stays, no_column, column-past}
 use Rattle.text_grammar.proofs.inner.next_sign.Goals as goal
 
 pub returns-in_default : goal.returns-in_default

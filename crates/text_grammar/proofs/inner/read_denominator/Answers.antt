@@ -1,6 +1,6 @@
 -- `inner::read_denominator` meets its contract.
 use mathlib.Core.Path.{sym, ◌∙◌}
-use Rattle.text_grammar.specs.Powers.{with-denominator, without-denominator}
+use Rattle.text_grammar.proofs.Powers.{with-denominator, without-denominator}
 use Rattle.text_grammar.proofs.inner.read_denominator.Goals as goal
 
 pub returns-then-next_is : goal.returns-then-next_is

@@ -1,7 +1,7 @@
 -- `inner::read_digits` meets its contract.
 use Rattle.std.proofs.Math.Path.{refl}
 use Rattle.rules.specs.Grammar.{digits}
-use Rattle.text_grammar.specs.Points.{stays, digits-past, digits-there, no-digits}
+use Rattle.text_grammar.proofs.Points.{stays, digits-past, digits-there, no-digits}
 use Rattle.text_grammar.proofs.inner.read_digits.Goals as goal
 
 pub returns-in_default : goal.returns-in_default

@@ -1,6 +1,6 @@
 -- `inner::read_minus` meets its contract.
 use mathlib.Core.Path.{sym, ◌∙◌}
-use Rattle.text_grammar.specs.Powers.{with-minus, without-minus}
+use Rattle.text_grammar.proofs.Powers.{with-minus, without-minus}
 use Rattle.text_grammar.proofs.inner.read_minus.Goals as goal
 
 pub returns-then-next_is : goal.returns-then-next_is

@@ -1,7 +1,8 @@
 -- `inner::read_name` meets its contract.
 use Rattle.rules.specs.Grammar.{name}
-use Rattle.text_grammar.specs.Points.{stays}
-use Rattle.text_grammar.specs.Factors.{noName, name-past, name-there, name-bad}
+use Rattle.text_grammar.proofs.Points.{stays}
+use Rattle.text_grammar.specs.Factors.{noName}
+use Rattle.text_grammar.proofs.Factors.{name-past, name-there, name-bad}
 use Rattle.text_grammar.proofs.inner.read_name.Goals as goal
 
 pub returns-in_default : goal.returns-in_default

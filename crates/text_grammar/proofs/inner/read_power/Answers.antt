@@ -1,5 +1,5 @@
 -- `inner::read_power` meets its contract.
-use Rattle.text_grammar.specs.Powers.{power-read}
+use Rattle.text_grammar.proofs.Powers.{power-read}
 use Rattle.text_grammar.proofs.inner.read_power.Goals as goal
 
 pub returns : goal.returns

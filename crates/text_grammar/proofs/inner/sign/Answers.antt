@@ -1,6 +1,7 @@
 -- `inner::sign` meets its contract.
-use Rattle.text_grammar.specs.Points.{stays}
-use Rattle.text_grammar.specs.Signs.{spelled, sign-spelt, sign-bad, spelled-past}
+use Rattle.text_grammar.proofs.Points.{stays}
+use Rattle.text_grammar.specs.Signs.{spelled}
+use Rattle.text_grammar.proofs.Signs.{sign-spelt, sign-bad, spelled-past}
 use Rattle.text_grammar.proofs.inner.sign.Goals as goal
 
 pub returns-in_default : goal.returns-in_default

@@ -1,5 +1,5 @@
 -- `inner::enter_constraint` meets its contract.
-use Rattle.text_lines.specs.Statements.{constraint-done}
+use Rattle.text_lines.proofs.Statements.{constraint-done}
 use Rattle.text_lines.proofs.inner.enter_constraint.Goals as goal
 
 pub returns : goal.returns

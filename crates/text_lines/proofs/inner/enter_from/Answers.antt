@@ -1,6 +1,6 @@
 -- `inner::enter_from` meets its contract.
 use mathlib.Core.Path.{sym, ◌∙◌}
-use Rattle.text_lines.specs.Statements.{comment-done, signs-done}
+use Rattle.text_lines.proofs.Statements.{comment-done, signs-done}
 use Rattle.text_lines.proofs.inner.enter_from.Goals as goal
 
 pub returns-then-next_is : goal.returns-then-next_is

@@ -1,9 +1,10 @@
 -- `inner::enter_has_field` meets its contract.
-use Rattle.text_names.specs.Effects.{kept_then, kept_above, kept-count, ready-count, ready_on, ready-next}
-use Rattle.text_names.specs.Inside.{inside-column, inside-spelled}
-use Rattle.text_types.specs.Parts.{from-counted}
+use Rattle.text_names.specs.Effects.{kept_then}
+use Rattle.text_names.proofs.Effects.{kept_above, kept-count, ready-count, ready_on, ready-next}
+use Rattle.text_names.proofs.Inside.{inside-column, inside-spelled}
+use Rattle.text_types.proofs.Parts.{from-counted}
 use mathlib.Core.List.{[]}
-use Rattle.text_lines.specs.Statements.{inside-quote, hasfield-done}
+use Rattle.text_lines.proofs.Statements.{inside-quote, hasfield-done}
 use Rattle.text_lines.proofs.inner.enter_has_field.Goals as goal
 
 pub enter_type-l-requires : goal.enter_type-l-requires

@@ -1,7 +1,7 @@
 -- `inner::enter_signs` meets its contract.
 use Rattle.std.proofs.Common.{rules}
-use Rattle.text_grammar.specs.Points.{NotAt}
-use Rattle.text_lines.specs.Statements.{blank-done, over-no-place}
+use Rattle.text_grammar.proofs.Points.{NotAt}
+use Rattle.text_lines.proofs.Statements.{blank-done, over-no-place}
 use Rattle.text_lines.proofs.inner.enter_signs.Goals as goal
 
 pub returns-in_default : goal.returns-in_default

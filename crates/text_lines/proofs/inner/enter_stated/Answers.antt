@@ -1,6 +1,6 @@
 -- `inner::enter_stated` meets its contract.
 use mathlib.Core.Path.{sym, ◌∙◌}
-use Rattle.text_lines.specs.Statements.{stated-field, stated-type}
+use Rattle.text_lines.proofs.Statements.{stated-field, stated-type}
 use Rattle.text_lines.proofs.inner.enter_stated.Goals as goal
 
 pub returns-then-next_is : goal.returns-then-next_is

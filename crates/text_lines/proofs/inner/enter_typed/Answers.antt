@@ -1,9 +1,11 @@
 -- `inner::enter_typed` meets its contract.
 use mathlib.Core.Path.{sym, subst, ◌∙◌}
-use Rattle.text_names.specs.Effects.{kept_then, kept_above, kept-count, ready-count, ready_on, ready-next}
-use Rattle.text_names.specs.Inside.{inside-column, inside-spelled}
-use Rattle.text_types.specs.Parts.{from-counted}
-use Rattle.text_lines.specs.Statements.{SaysScalar, equal-done, dim-done, scalar-done, none_done}
+use Rattle.text_names.specs.Effects.{kept_then}
+use Rattle.text_names.proofs.Effects.{kept_above, kept-count, ready-count, ready_on, ready-next}
+use Rattle.text_names.proofs.Inside.{inside-column, inside-spelled}
+use Rattle.text_types.proofs.Parts.{from-counted}
+use Rattle.text_lines.specs.Statements.{SaysScalar}
+use Rattle.text_lines.proofs.Statements.{equal-done, dim-done, scalar-done, none_done}
 use Rattle.text_lines.proofs.inner.enter_typed.Goals as goal
 
 pub enter_type-l-requires : goal.enter_type-l-requires

@@ -1,7 +1,7 @@
 -- `inner::quote` meets its contract.
 use Rattle.std.proofs.Common.{arith}
-use Rattle.text_grammar.specs.Points.{stays}
-use Rattle.text_lines.specs.Statements.{quote-there, quote-other, quote-end, quote-past}
+use Rattle.text_grammar.proofs.Points.{stays}
+use Rattle.text_lines.proofs.Statements.{quote-there, quote-other, quote-end, quote-past}
 use Rattle.text_lines.proofs.inner.quote.Goals as goal
 use Rattle.text_lines.proofs.inner.quote.Goals.{else-i-line-via-then-i-line+else-line-i-eq34, else-i-line-via-else-i-line}
 

@@ -1,9 +1,9 @@
 -- `inner::read_line` meets its contract.
 use mathlib.Core.Path.{refl}
 use native.Mathlib.Omega.{arith}
-use Rattle.text_names.specs.Effects.{ready_on, roomy, not-past}
-use Rattle.text_names.specs.Inside.{inside-column}
-use Rattle.text_lines.specs.Answers.{answered}
+use Rattle.text_names.proofs.Effects.{ready_on, roomy, not-past}
+use Rattle.text_names.proofs.Inside.{inside-column}
+use Rattle.text_lines.proofs.Answers.{answered}
 use Rattle.text_lines.proofs.inner.read_line.Goals as goal
 
 pub enter_signs-stated-requires : goal.enter_signs-stated-requires

@@ -1,6 +1,6 @@
 -- `inner::put_head` meets its contract.
 use native.Mathlib.Omega.{arith}
-use Rattle.text_names.specs.Stands.{head-put}
+use Rattle.text_names.proofs.Stands.{head-put}
 use Rattle.text_names.proofs.inner.put_head.Goals as goal
 
 pub overflow_sub-behind : goal.overflow_sub-behind

@@ -2,7 +2,7 @@
 use native.Mathlib.Omega.{arith}
 use Rattle.std.proofs.lemmas.Bool.Decides.{nat_tests}
 use Rattle.rules.specs.Grammar.{isDigit}
-use Rattle.text_scan.specs.Numbers.{stop-end, stop-other}
+use Rattle.text_scan.proofs.Numbers.{stop-end, stop-other}
 use Rattle.text_scan.proofs.inner.digit_at.Goals as goal
 
 pub returns-then-line-at : goal.returns-then-line-at

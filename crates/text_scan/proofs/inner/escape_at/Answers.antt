@@ -1,7 +1,7 @@
 -- `inner::escape_at` meets its contract.
 use native.Mathlib.Omega.{arith}
 use Rattle.std.proofs.Common.{rules, ◌≡◌, Err}
-use Rattle.text_scan.specs.Scanned.{hex-below, first-bad, second-bad, both-digits}
+use Rattle.text_scan.proofs.Scanned.{hex-below, first-bad, second-bad, both-digits}
 use Rattle.text_scan.proofs.inner.escape_at.Goals as goal
 
 pub returns-in_err-high : goal.returns-in_err-high

@@ -1,7 +1,7 @@
 -- `inner::letter_at` meets its contract.
 use mathlib.Core.Path.{sym}
 use native.Mathlib.Omega.{arith}
-use Rattle.text_scan.specs.Scanned.{end-name, plain-letter, no-letter}
+use Rattle.text_scan.proofs.Scanned.{end-name, plain-letter, no-letter}
 use Rattle.text_scan.proofs.inner.letter_at.Goals as goal
 
 pub returns-then-at-line : goal.returns-then-at-line

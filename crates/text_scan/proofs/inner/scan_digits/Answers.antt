@@ -1,5 +1,5 @@
 -- `inner::scan_digits` meets its contract: what was read so far.
-use Rattle.text_scan.specs.Numbers.{first-digit, one_more}
+use Rattle.text_scan.proofs.Numbers.{first-digit, one_more}
 use Rattle.text_scan.proofs.inner.scan_digits.Goals as goal
 
 pub loop-d-init : goal.loop-d-init

@@ -1,6 +1,6 @@
 use Prim.Native.Nat.{◌-◌}
 use lib.ListN.{length}
-use Rattle.text_scan.specs.Numbers.{Counting}
+use Rattle.text_scan.proofs.Numbers.{Counting}
 use Rattle.text_scan.proofs.inner.scan_digits.Given as goal
 
 abbrev pub invariant-loop-d : goal.invariant-loop-d

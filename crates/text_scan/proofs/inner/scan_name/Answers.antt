@@ -3,7 +3,7 @@ use mathlib.Core.Path.{refl}
 use native.Mathlib.Omega.{arith}
 use Rattle.std.proofs.Common.{rules, ◌≡◌, Err, set}
 use Rattle.std.proofs.lemmas.Grind.{common_steps}
-use Rattle.text_scan.specs.Names.{starts, goes_on, ends, fails}
+use Rattle.text_scan.proofs.Names.{starts, goes_on, ends, fails}
 use Rattle.text_scan.proofs.inner.scan_name.Goals as goal
 
 pub loop-letter-init : goal.loop-letter-init

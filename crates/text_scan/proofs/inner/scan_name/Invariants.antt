@@ -1,7 +1,7 @@
 use mathlib.Core.Path.{◌≡◌}
 use Prim.Native.Nat.{◌-◌}
 use lib.ListN.{length}
-use Rattle.text_scan.specs.Names.{Reading}
+use Rattle.text_scan.proofs.Names.{Reading}
 use Rattle.text_scan.proofs.inner.scan_name.Given as goal
 
 abbrev pub invariant-loop-letter : goal.invariant-loop-letter

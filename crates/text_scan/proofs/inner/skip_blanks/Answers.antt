@@ -1,7 +1,7 @@
 -- `inner::skip_blanks` meets its contract: what is left to skip.
 use Rattle.std.specs.Prelude.{◌≡◌, length}
 use Rattle.std.proofs.Common.{sym, ◌∙◌, arith}
-use Rattle.text_scan.specs.Scanned.{sign-step, blank_step, end_step}
+use Rattle.text_scan.proofs.Scanned.{sign-step, blank_step, end_step}
 use Rattle.text_scan.proofs.inner.skip_blanks.Goals as goal
 
 pub returns-then-not-is_blank : goal.returns-then-not-is_blank

@@ -1,7 +1,7 @@
 -- `inner::spell` meets its contract: what is left to spell.
 use mathlib.Core.Path.{refl, sym, ◌∙◌}
 use native.Mathlib.Omega.{arith}
-use Rattle.text_scan.specs.Scanned.{spelt-whole, spelt-end, spelt-other, spelt-step}
+use Rattle.text_scan.proofs.Scanned.{spelt-whole, spelt-end, spelt-other, spelt-step}
 use Rattle.text_scan.proofs.inner.spell.Goals as goal
 
 pub loop-b-init : goal.loop-b-init

@@ -3,7 +3,7 @@ use mathlib.Core.Bool.{not}
 use mathlib.Core.Path.{ap}
 use native.Mathlib.Omega.{arith}
 use Rattle.std.proofs.Common.{rules, ◌≡◌, Err}
-use Rattle.text_sheet.specs.Given.{malformed, good, refused-sheet, read-sheet}
+use Rattle.text_sheet.proofs.Given.{malformed, good, refused-sheet, read-sheet}
 use Rattle.text_sheet.proofs.inner.read_given.Goals as goal
 
 pub returns-then-not-is_good : goal.returns-then-not-is_good

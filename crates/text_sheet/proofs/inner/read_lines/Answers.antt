@@ -1,7 +1,7 @@
 -- `inner::read_lines` meets its contract: the lines so far are read.
 use mathlib.Core.Path.{refl}
 use native.Mathlib.Omega.{arith}
-use Rattle.text_sheet.specs.Loop.{begins, counts, goes_on, ends, place_in, stops}
+use Rattle.text_sheet.proofs.Loop.{begins, counts, goes_on, ends, place_in, stops}
 use Rattle.text_sheet.proofs.inner.read_lines.Goals as goal
 
 pub loop-line-init : goal.loop-line-init

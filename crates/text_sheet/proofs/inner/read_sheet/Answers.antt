@@ -2,7 +2,7 @@
 use mathlib.Core.Path.{sym, ◌∙◌}
 use native.Mathlib.Omega.{arith}
 use Rattle.std.proofs.Common.{◌≤◌, length, length-take-le}
-use Rattle.text_sheet.specs.Loop.{put-back}
+use Rattle.text_sheet.proofs.Loop.{put-back}
 use Rattle.text_sheet.proofs.inner.read_sheet.Goals as goal
 
 pub copy_from_slice-requires : goal.copy_from_slice-requires

@@ -2,7 +2,7 @@ use Prim.Native.Nat.{ℕ}
 use Rattle.text_grammar.specs.Choice.{among, heads}
 -- `inner::too_deep` meets its contract.
 use mathlib.Core.Path.{sym, ap, ◌∙◌}
-use Rattle.text_types.specs.Rows.{deep-type, no-deep}
+use Rattle.text_types.proofs.Rows.{deep-type, no-deep}
 use Rattle.text_types.proofs.inner.too_deep.Goals as goal
 
 pub returns-then-is_head : goal.returns-then-is_head

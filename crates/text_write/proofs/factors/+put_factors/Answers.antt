@@ -1,6 +1,6 @@
 -- `put_factors` meets its contract: the first factor, and then the others.
-use Rattle.text_spell.specs.Sinks.{cut, nothing, then}
-use Rattle.text_write.specs.Parts.{next-factor, no-factors}
+use Rattle.text_spell.proofs.Sinks.{cut, nothing, then}
+use Rattle.text_write.proofs.Parts.{next-factor, no-factors}
 use Rattle.text_write.proofs.factors.+put_factors.Goals as goal
 
 pub returns-in_default : goal.returns-in_default

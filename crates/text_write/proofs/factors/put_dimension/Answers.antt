@@ -1,6 +1,6 @@
 -- `put_dimension` meets its contract.
-use Rattle.text_spell.specs.Sinks.{cut, then}
-use Rattle.text_write.specs.Parts.{dimension-is}
+use Rattle.text_spell.proofs.Sinks.{cut, then}
+use Rattle.text_write.proofs.Parts.{dimension-is}
 use Rattle.text_write.proofs.factors.put_dimension.Goals as goal
 
 pub returns-in_err-put : goal.returns-in_err-put

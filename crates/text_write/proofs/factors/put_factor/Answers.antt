@@ -1,6 +1,6 @@
 -- `put_factor` meets its contract.
-use Rattle.text_spell.specs.Sinks.{cut, then}
-use Rattle.text_write.specs.Parts.{factor-text}
+use Rattle.text_spell.proofs.Sinks.{cut, then}
+use Rattle.text_write.proofs.Parts.{factor-text}
 use Rattle.text_write.proofs.factors.put_factor.Goals as goal
 
 pub returns-in_err-put_atom : goal.returns-in_err-put_atom

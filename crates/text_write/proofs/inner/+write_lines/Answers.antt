@@ -1,8 +1,8 @@
 -- `write_lines` meets its contract: the first line, and then the others.
 use Rattle.std.proofs.Common.{arith, rules}
-use Rattle.text_spell.specs.Sinks.{cut, nothing, then}
-use Rattle.text_write.specs.Parts.{next-line, no-line}
-use Rattle.text_write.specs.Rows.{as_line, line-on, line-others, no-lines}
+use Rattle.text_spell.proofs.Sinks.{cut, nothing, then}
+use Rattle.text_write.proofs.Parts.{next-line, no-line}
+use Rattle.text_write.proofs.Rows.{as_line, line-on, line-others, no-lines}
 use Rattle.text_write.proofs.inner.+write_lines.Goals as goal
 
 pub returns-then-set-at : goal.returns-then-set-at

@@ -1,5 +1,5 @@
 -- `put_named` meets its contract.
-use Rattle.text_spell.specs.Sinks.{cut, then}
+use Rattle.text_spell.proofs.Sinks.{cut, then}
 use Rattle.text_write.proofs.lines.put_named.Goals as goal
 
 pub returns-in_err-put_held : goal.returns-in_err-put_held

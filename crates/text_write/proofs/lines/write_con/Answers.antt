@@ -1,7 +1,7 @@
 -- `write_con` meets its contract: by what the constraint asks.
 use Rattle.rules.specs.TextWriting.{conText}
-use Rattle.text_spell.specs.Sinks.{cut, then}
-use Rattle.text_write.specs.Parts.{has-text}
+use Rattle.text_spell.proofs.Sinks.{cut, then}
+use Rattle.text_write.proofs.Parts.{has-text}
 use Rattle.text_write.proofs.lines.write_con.Goals as goal
 
 pub returns-in_err-write_type-in-Equal : goal.returns-in_err-write_type-in-Equal

@@ -3,16 +3,10 @@ use Rattle.std.specs.Prelude.{ℕ}
 use Rattle.std.proofs.Common.{ap, arith, rules}
 use Rattle.rules.specs.TextWriting.{tyText}
 use Rattle.rules.specs.Trees.{Fields, Ty, Tys, size, sizeFields, sizeTys}
-use Rattle.records.specs.ByView.{size-pos}
-use Rattle.text_spell.specs.Sinks.{cut, nothing, then}
-use Rattle.text_write.specs.Parts.{
-  fromTys,
-  next_fields,
-  next_types,
-  no_fields,
-  no_types,
-  struct_text,
-}
+use Rattle.records.proofs.ByView.{size-pos}
+use Rattle.text_spell.proofs.Sinks.{cut, nothing, then}
+use Rattle.text_write.specs.Parts.{fromTys}
+use Rattle.text_write.proofs.Parts.{next_fields, next_types, no_fields, no_types, struct_text}
 use Rattle.text_write.proofs.terms.+types.Goals as goal
 
 pub write_fields-returns-in_default : goal.write_fields-returns-in_default

@@ -1,5 +1,5 @@
 -- `put_label` meets its contract.
-use Rattle.text_spell.specs.Sinks.{then}
+use Rattle.text_spell.proofs.Sinks.{then}
 use Rattle.text_write.proofs.terms.put_label.Goals as goal
 
 pub returns : goal.returns

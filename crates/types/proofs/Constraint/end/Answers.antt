@@ -1,5 +1,5 @@
 use Rattle.std.proofs.Common.{arith}
-use Rattle.records.specs.ByView.{con-in}
+use Rattle.records.proofs.ByView.{con-in}
 use Rattle.types.proofs.Constraint.end.Goals as goal
 
 pub overflow_add-result : goal.overflow_add-result

@@ -1,5 +1,5 @@
 use Rattle.std.proofs.Common.{◌∙◌}
-use Rattle.records.specs.Holds.{con-long}
+use Rattle.records.proofs.Holds.{con-long}
 use Rattle.types.proofs.Constraint.len.Goals as goal
 
 pub returns : goal.returns

@@ -1,5 +1,5 @@
 -- The first constraint and the rest are the set.
-use Rattle.types.specs.Sets.{none-left, con-here, cons-behind, cons-are}
+use Rattle.types.proofs.OnSets.{none-left, con-here, cons-behind, cons-are}
 use Rattle.types.proofs.Constraints.split_first.Goals as goal
 
 pub returns-then-self : goal.returns-then-self

@@ -3,9 +3,9 @@ use Rattle.std.specs.Prelude.{eqb}
 use Rattle.rules.specs.Base.{any}
 use Rattle.rules.specs.Trees.{opens}
 use Rattle.rules.specs.Contents.{contains, variablesIn}
-use Rattle.laws.specs.Contents.{contains-eqb}
+use Rattle.laws.proofs.Contents.{contains-eqb}
 use Rattle.queries.specs.Scans.{opensIn}
-use Rattle.queries.specs.ScanLaws.{type-opens}
+use Rattle.queries.proofs.ScanLaws.{type-opens}
 use Rattle.types.proofs.Type.contains.Goals as goal
 
 pub returns : goal.returns

@@ -1,7 +1,7 @@
 -- The first record says how long the type is.
 use Rattle.std.proofs.Common.{arith}
 use Rattle.records.specs.ByView.{ends-in}
-use Rattle.records.specs.Holds.{holds-long}
+use Rattle.records.proofs.Holds.{holds-long}
 use Rattle.types.proofs.Type.end.Goals as goal
 
 pub overflow_add-result : goal.overflow_add-result

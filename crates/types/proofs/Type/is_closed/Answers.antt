@@ -2,7 +2,7 @@ use Rattle.std.proofs.Common.{ap, ◌∙◌}
 use Rattle.rules.specs.Base.{isNil}
 use Rattle.rules.specs.Contents.{closed}
 use Rattle.queries.specs.Scans.{opensIn}
-use Rattle.queries.specs.ScanLaws.{type-opens}
+use Rattle.queries.proofs.ScanLaws.{type-opens}
 use Rattle.types.proofs.Type.is_closed.Goals as goal
 
 pub returns : goal.returns

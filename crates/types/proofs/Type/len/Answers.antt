@@ -1,5 +1,5 @@
 use Rattle.std.proofs.Common.{◌∙◌}
-use Rattle.records.specs.Holds.{holds-long}
+use Rattle.records.proofs.Holds.{holds-long}
 use Rattle.types.proofs.Type.len.Goals as goal
 
 pub returns : goal.returns

@@ -1,7 +1,7 @@
 use Rattle.std.proofs.Common.{arith, sym, ◌∙◌, ◌*◌}
-use Rattle.laws.specs.Entering.{drop-take}
+use Rattle.laws.proofs.Entering.{drop-take}
 use Rattle.records.specs.ByView.{ends-in}
-use Rattle.types.specs.Puts.{type-words}
+use Rattle.types.proofs.Puts.{type-words}
 use Rattle.types.proofs.Type.record_words.Goals as goal
 
 pub overflow_mul-result : goal.overflow_mul-result

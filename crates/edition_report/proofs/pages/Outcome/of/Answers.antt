@@ -1,7 +1,7 @@
 -- `Outcome::of` meets its contract: by outcome and verdict.
 use Rattle.std.specs.Prelude.{refl, Ok}
 use Rattle.std.proofs.Common.{◌≡◌, ap, ◌∙◌}
-use Rattle.edition_report.specs.Found.{found-agrees, found-denied, found-unjudged, found-remains, found-stops, there-agrees, there-remains}
+use Rattle.edition_report.proofs.Found.{found-agrees, found-denied, found-unjudged, found-remains, found-stops, there-agrees, there-remains}
 use Rattle.edition_report.proofs.pages.Outcome.of.Goals as goal
 
 pub returns-in-Ok-None : goal.returns-in-Ok-None

@@ -8,7 +8,8 @@ use Rattle.std.proofs.lemmas.Result.{err_from_is_err_and}
 use Rattle.rules.specs.Base.{Got, got}
 use Rattle.rules.specs.Elimination.{Row, putInRow}
 use Rattle.engine_matrix.specs.Told.{row_in}
-use Rattle.engine_matrix.specs.Grids.{rowsIn, grid-long}
+use Rattle.engine_matrix.specs.Grids.{rowsIn}
+use Rattle.engine_matrix.proofs.Grids.{grid-long}
 use Rattle.engine_matrix.proofs.Loops.{start, onward, stop, done, part-long, part_at}
 use Rattle.engine_matrix.proofs.inner.grids.put_in_rows.Goals as goal
 

@@ -8,7 +8,8 @@ use Rattle.engine_matrix.specs.declared.inner.parts.Row.{Row}
 use Rattle.rules.specs.Elimination.{fate, gone, stays, binds}
 use Rattle.engine_matrix.specs.Told.{row_in}
 use Rattle.engine_matrix.specs.Grids.{First}
-use Rattle.engine_matrix.specs.Machine.{namesIn, colsIn, columns-few, names-long, variable-name}
+use Rattle.engine_matrix.specs.Machine.{namesIn, colsIn}
+use Rattle.engine_matrix.proofs.Machine.{columns-few, names-long, variable-name}
 use Rattle.engine_matrix.proofs.Steps.{fate-none, fate-other, fate-variable}
 use Rattle.engine_matrix.proofs.inner.grids.step.Goals as goal
 

@@ -5,7 +5,7 @@ use native.Mathlib.Omega.{arith}
 use Rattle.std.proofs.lemmas.Result.{err_from_is_err_and}
 use Rattle.rules.specs.Base.{bounded}
 use Rattle.rules.specs.Exponents.{Exp, nought, goodExp, neg, quotient}
-use Rattle.laws.specs.Ranges.{neg-good, quotient-good}
+use Rattle.laws.proofs.Ranges.{neg-good, quotient-good}
 use Rattle.exponents.specs.Answers.{expOf}
 use Rattle.engine_matrix.specs.Told.{row_in, quotients}
 use Rattle.engine_matrix.proofs.Loops.{start, onward, stop, all-done}

@@ -7,7 +7,7 @@ use lib.ListN.{length, get_or}
 use Rattle.std.proofs.lemmas.Result.{err_from_is_err_and}
 use Rattle.rules.specs.Base.{Got, bounded}
 use Rattle.rules.specs.Exponents.{Exp, nought, goodExp, sum}
-use Rattle.laws.specs.Ranges.{sum-good}
+use Rattle.laws.proofs.Ranges.{sum-good}
 use Rattle.exponents.specs.declared.Exponent.{Exponent}
 use Rattle.exponents.specs.Answers.{expOf}
 use Rattle.engine_matrix.specs.declared.inner.parts.Row.{Row}

@@ -4,7 +4,7 @@ use lib.ListN.{set}
 use Rattle.std.proofs.lemmas.Result.{err_from_is_err_and}
 use Rattle.rules.specs.Base.{Got, ◌>>=◌}
 use Rattle.rules.specs.Exponents.{Exp, nought}
-use Rattle.laws.specs.Ranges.{nought-good}
+use Rattle.laws.proofs.Ranges.{nought-good}
 use Rattle.rules.specs.Elimination.{Row, timesRow, plusRow, putInRow}
 use Rattle.engine_matrix.specs.Told.{row_in}
 use Rattle.engine_matrix.proofs.inner.rows.put_in.Goals as goal

@@ -1,6 +1,6 @@
 -- `engine_matrix::rows::solved_for` meets its contract.
 use mathlib.Core.Path.{ap₂, ◌∙◌}
-use Rattle.laws.specs.Ranges.{nought-good}
+use Rattle.laws.proofs.Ranges.{nought-good}
 use Rattle.rules.specs.Elimination.{solvedFor}
 use Rattle.engine_matrix.specs.Told.{quotients}
 use Rattle.engine_matrix.proofs.inner.rows.solved_for.Goals as goal

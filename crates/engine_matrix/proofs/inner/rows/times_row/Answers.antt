@@ -5,7 +5,7 @@ use native.Mathlib.Omega.{arith}
 use Rattle.std.proofs.lemmas.Result.{err_from_is_err_and}
 use Rattle.rules.specs.Base.{bounded}
 use Rattle.rules.specs.Exponents.{Exp, nought, goodExp, times}
-use Rattle.laws.specs.Ranges.{times-good}
+use Rattle.laws.proofs.Ranges.{times-good}
 use Rattle.exponents.specs.Answers.{expOf}
 use Rattle.rules.specs.Elimination.{timesRow}
 use Rattle.engine_matrix.specs.Told.{row_in}

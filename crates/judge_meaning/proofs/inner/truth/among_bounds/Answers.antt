@@ -1,6 +1,6 @@
 use Rattle.std.proofs.Common.{[], ap, ◌∙◌}
 use Rattle.queries.specs.Scans.{opensIn}
-use Rattle.queries.specs.ScanLaws.{type-opens}
+use Rattle.queries.proofs.ScanLaws.{type-opens}
 use Rattle.judge_meaning.proofs.Truths.{within-bounds}
 use Rattle.judge_meaning.proofs.inner.truth.among_bounds.Goals as goal
 

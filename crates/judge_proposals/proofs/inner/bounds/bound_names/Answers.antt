@@ -3,7 +3,7 @@ use mathlib.Core.List.{[], map}
 use native.Mathlib.Omega.{arith}
 use lib.Seq.{take_all}
 use Rattle.rules.specs.Writing.{word_of}
-use Rattle.judge_proposals.specs.Bounds.{nth, many, more-marked}
+use Rattle.judge_proposals.proofs.Bounds.{nth, many, more-marked}
 use Rattle.judge_proposals.proofs.inner.bounds.bound_names.Goals as goal
 
 pub loop-i-init : goal.loop-i-init

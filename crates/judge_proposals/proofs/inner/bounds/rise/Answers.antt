@@ -7,7 +7,7 @@ use lib.ListN.{get_or}
 use Rattle.rules.specs.WellFormed.{is_lt}
 use Rattle.rules.specs.Writing.{word_of}
 use Rattle.records.specs.Good.{numbers}
-use Rattle.judge_proposals.specs.Bounds.{nth, many, rise-no, rise-on, rise-end}
+use Rattle.judge_proposals.proofs.Bounds.{nth, many, rise-no, rise-on, rise-end}
 use Rattle.judge_proposals.proofs.inner.bounds.rise.Goals as goal
 
 pub loop-i-init : goal.loop-i-init

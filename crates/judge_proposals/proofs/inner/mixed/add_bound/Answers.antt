@@ -1,7 +1,7 @@
 -- `inner::mixed::add_bound` meets its contract.
-use Rattle.replace.specs.Places.{says_some}
-use Rattle.judge_proposals.specs.Mixed.{unbound, bound}
-use Rattle.queries.specs.MarkLaws.{mark-none}
+use Rattle.replace.proofs.Places.{says_some}
+use Rattle.judge_proposals.proofs.Mixed.{unbound, bound}
+use Rattle.queries.proofs.MarkLaws.{mark-none}
 use Rattle.judge_proposals.proofs.inner.mixed.add_bound.Goals as goal
 use Rattle.judge_proposals.proofs.inner.mixed.add_bound.Goals.{in-Some, in_default}
 

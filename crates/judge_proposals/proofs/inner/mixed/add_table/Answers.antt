@@ -6,8 +6,9 @@ use Rattle.rules.specs.Names.{numbered}
 use Rattle.rules.specs.Replacing.{find}
 use Rattle.replace.specs.Places.{SaysAt}
 use Rattle.queries.specs.Marks.{Has}
-use Rattle.queries.specs.ScanLaws.{choose-none}
-use Rattle.judge_proposals.specs.Mixed.{opensBelow, below_on}
+use Rattle.queries.proofs.ScanLaws.{choose-none}
+use Rattle.judge_proposals.specs.Mixed.{opensBelow}
+use Rattle.judge_proposals.proofs.Mixed.{below_on}
 use Rattle.judge_proposals.proofs.inner.mixed.add_table.Goals as goal
 
 pub loop-x-init : goal.loop-x-init

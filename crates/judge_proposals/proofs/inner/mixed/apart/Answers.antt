@@ -5,7 +5,7 @@ use Prim.Native.Nat.{◌/◌}
 use lib.ListN.{length}
 use Rattle.rules.specs.Base.{collect}
 use Rattle.rules.specs.Calls.{opensBinding}
-use Rattle.queries.specs.MarkLaws.{unmixed-marks}
+use Rattle.queries.proofs.MarkLaws.{unmixed-marks}
 use Rattle.queries.specs.Scans.{opensIn}
 use Rattle.queries.specs.declared.Kind.TheVariants.{Variables, Parameters}
 use Rattle.judge_proposals.proofs.Order.{same-marks}

@@ -2,7 +2,7 @@
 use mathlib.Core.Path.{sym, ap, ◌∙◌}
 use Rattle.rules.specs.Calls.{differ}
 use Rattle.std.proofs.lemmas.List.{drop_all}
-use Rattle.lines_entry.specs.Used.{differ-hit, differ-miss}
+use Rattle.lines_entry.proofs.Used.{differ-hit, differ-miss}
 use Rattle.lines_entry.proofs.inner.fresh.all_differ.Goals as goal
 
 pub returns-then-is_among : goal.returns-then-is_among

@@ -4,7 +4,7 @@ use lib.Dec.{ltb}
 use lib.ListN.{get_or}
 use Rattle.rules.specs.Base.{all}
 use Rattle.std.proofs.lemmas.List.{drop_all}
-use Rattle.lines_entry.specs.Used.{all-hit, all-miss}
+use Rattle.lines_entry.proofs.Used.{all-hit, all-miss}
 use Rattle.lines_entry.proofs.inner.fresh.all_held.Goals as goal
 
 pub returns-then-not-is_held : goal.returns-then-not-is_held

@@ -3,7 +3,7 @@ use mathlib.Core.Path.{sym, ap, ◌∙◌}
 use lib.Dec.{eqb}
 use Rattle.rules.specs.Base.{any}
 use Rattle.std.proofs.lemmas.List.{drop_all}
-use Rattle.lines_entry.specs.Used.{among-hit, among-miss}
+use Rattle.lines_entry.proofs.Used.{among-hit, among-miss}
 use Rattle.lines_entry.proofs.inner.fresh.is_among.Goals as goal
 
 pub returns-then-x-lent : goal.returns-then-x-lent

@@ -3,7 +3,7 @@ use mathlib.Core.Path.{refl, sym, ap, ◌∙◌}
 use mathlib.Core.Bool.{not}
 use Rattle.rules.specs.Base.{all}
 use Rattle.std.proofs.lemmas.List.{drop_all}
-use Rattle.lines_entry.specs.Used.{all-hit, all-miss}
+use Rattle.lines_entry.proofs.Used.{all-hit, all-miss}
 use Rattle.lines_entry.proofs.inner.fresh.none_used.Goals as goal
 
 pub loop-i-init : goal.loop-i-init

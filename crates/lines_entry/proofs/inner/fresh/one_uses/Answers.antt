@@ -5,7 +5,7 @@ use Rattle.rules.specs.Base.{any}
 use Rattle.lines_entry.specs.declared.inner.steps.Step.{Step}
 use Rattle.rules.specs.Lines.{namesOfStep}
 use Rattle.lines_entry.specs.Told.{stepOf}
-use Rattle.lines_entry.specs.Used.{used-hit, used-miss, used-none}
+use Rattle.lines_entry.proofs.Used.{used-hit, used-miss, used-none}
 use Rattle.lines_entry.proofs.inner.fresh.one_uses.Goals as goal
 
 pub loop-step-init : goal.loop-step-init

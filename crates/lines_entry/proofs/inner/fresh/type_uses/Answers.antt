@@ -2,7 +2,7 @@
 use mathlib.Core.Path.{ap, ◌∙◌}
 use lib.Dec.{eqb}
 use Rattle.rules.specs.Base.{any}
-use Rattle.lines_entry.specs.Used.{type-names}
+use Rattle.lines_entry.proofs.Used.{type-names}
 use Rattle.lines_entry.proofs.inner.fresh.type_uses.Goals as goal
 
 pub returns : goal.returns

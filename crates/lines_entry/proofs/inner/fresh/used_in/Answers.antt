@@ -2,7 +2,7 @@
 use mathlib.Core.Path.{sym, ap, ◌∙◌}
 use lib.Dec.{eqb}
 use Rattle.rules.specs.Base.{any}
-use Rattle.lines_entry.specs.Used.{names-none, any-hit, any-miss}
+use Rattle.lines_entry.proofs.Used.{names-none, any-hit, any-miss}
 use Rattle.lines_entry.proofs.inner.fresh.used_in.Goals as goal
 
 pub returns-then-is_name : goal.returns-then-is_name

@@ -4,7 +4,7 @@ use native.Mathlib.Omega.{arith}
 use Rattle.rules.specs.Steps.{operands}
 use Rattle.lines_entry.specs.declared.inner.steps.Step.{Step}
 use Rattle.lines_entry.specs.Told.{stepOf}
-use Rattle.lines_entry.specs.StepLists.{whole-on, whole-off, whole-end}
+use Rattle.lines_entry.proofs.StepLists.{whole-on, whole-off, whole-end}
 use Rattle.lines_entry.proofs.inner.parsing.is_whole.Goals as goal
 
 pub loop-step-init : goal.loop-step-init

@@ -9,7 +9,7 @@ use Rattle.std.proofs.lemmas.Result.{err_from_is_err_and}
 use Rattle.rules.specs.Base.{got}
 use Rattle.rules.specs.Refusals.{toldBy}
 use Rattle.lines_entry.specs.Told.{stepOf}
-use Rattle.lines_entry.specs.StepLists.{ReadTo, read_more, read-stops, read-all, stored, line-torn, line-types, line_refused, line-made, line-torn-off}
+use Rattle.lines_entry.proofs.StepLists.{ReadTo, read_more, read-stops, read-all, stored, line-torn, line-types, line_refused, line-made, line-torn-off}
 use Rattle.lines_entry.proofs.inner.parsing.read_steps.Goals as goal
 
 pub returns-then-line-ne0 : goal.returns-then-line-ne0

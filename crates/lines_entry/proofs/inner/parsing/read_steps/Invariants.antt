@@ -4,7 +4,7 @@ use lib.ListN.{length, take}
 use Rattle.rules.specs.Names.{table_of}
 use Rattle.records.specs.Views.{recs}
 use Rattle.rules.specs.Steps.{stepGiven}
-use Rattle.lines_entry.specs.StepLists.{ReadTo}
+use Rattle.lines_entry.proofs.StepLists.{ReadTo}
 use Rattle.lines_entry.specs.Told.{stepOf}
 use Rattle.lines_entry.proofs.inner.parsing.read_steps.Given as goal
 

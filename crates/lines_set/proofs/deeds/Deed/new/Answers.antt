@@ -1,5 +1,5 @@
 use native.Mathlib.Omega.{arith}
-use Rattle.lines_set.specs.Deeds.{missing-as, taken-as}
+use Rattle.lines_set.proofs.OnDeeds.{missing-as, taken-as}
 use Rattle.lines_set.proofs.deeds.Deed.new.Goals as goal
 
 pub returns-in_default : goal.returns-in_default

@@ -1,6 +1,6 @@
 -- A table that passed is well formed.
 use mathlib.Core.Path.{sym}
-use Rattle.laws.specs.NameTable.{given-good}
+use Rattle.laws.proofs.NameTable.{given-good}
 use Rattle.names.proofs.tables.NameTable.new.Goals as goal
 
 pub invariant_of-result : goal.invariant_of-result

@@ -4,9 +4,9 @@ use mathlib.Core.Path.{refl, sym, ap, ◌∙◌}
 use Prim.Native.Nat.{◌+◌}
 use mathlib.Core.List.{◌++◌, append_assoc, append-nil}
 use Rattle.queries.specs.Scans.{choose, opensIn}
-use Rattle.queries.specs.ScanLaws.{opens-none, choose-none, names-step}
+use Rattle.queries.proofs.ScanLaws.{opens-none, choose-none, names-step}
 use Rattle.queries.specs.Marks.{Has}
-use Rattle.queries.specs.MarkLaws.{mark-none}
+use Rattle.queries.proofs.MarkLaws.{mark-none}
 use Rattle.queries.proofs.name_set.NameSet.extend.Goals as goal
 use Rattle.queries.proofs.name_set.NameSet.extend.Goals.{in-Some, in_default}
 

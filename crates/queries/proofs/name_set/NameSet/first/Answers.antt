@@ -6,7 +6,7 @@ use Rattle.rules.specs.Names.{table_of, names_of}
 use Rattle.laws.specs.ByteOrder.{numbered-lawful}
 use Rattle.laws.specs.NameTable.{held_tells}
 use Rattle.records.specs.Good.{numbers}
-use Rattle.queries.specs.SortMarks.{least-none, skipped, taken}
+use Rattle.queries.proofs.SortMarks.{least-none, skipped, taken}
 use Rattle.queries.proofs.name_set.NameSet.first.Goals as goal
 use Rattle.queries.proofs.name_set.NameSet.first.Goals.{then-self-i, else-self-i}
 

@@ -1,4 +1,4 @@
-use Rattle.queries.specs.MarkLaws.{mark-put, mark-out}
+use Rattle.queries.proofs.MarkLaws.{mark-put, mark-out}
 use Rattle.queries.proofs.name_set.NameSet.insert.Goals as goal
 
 pub returns-then-i-lt-NAMES : goal.returns-then-i-lt-NAMES

@@ -3,7 +3,7 @@ use mathlib.Core.Path.{sym, ◌∙◌}
 use Prim.Native.Nat.{◌<◌}
 use native.Mathlib.Omega.{arith}
 use lib.ListN.{length}
-use Rattle.queries.specs.MarkLaws.{disjoint-end, both-marked, first-unmarked, second-unmarked}
+use Rattle.queries.proofs.MarkLaws.{disjoint-end, both-marked, first-unmarked, second-unmarked}
 use Rattle.queries.proofs.name_set.NameSet.is_disjoint.Goals as goal
 use Rattle.queries.proofs.name_set.NameSet.is_disjoint.Goals.{else-self-i-via-then-self-i+else-other-i, else-self-i-via-else-self-i}
 

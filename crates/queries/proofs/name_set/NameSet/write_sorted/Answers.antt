@@ -5,7 +5,7 @@ use Rattle.rules.specs.Names.{table_of, names_of}
 use Rattle.laws.specs.ByteOrder.{numbered-lawful}
 use Rattle.laws.specs.NameTable.{held_tells}
 use Rattle.records.specs.Good.{numbers}
-use Rattle.queries.specs.SortMarks.{sorting_start, sorting-end, sorting-less, sorting-few, sorting_step}
+use Rattle.queries.proofs.SortMarks.{sorting_start, sorting-end, sorting-less, sorting-few, sorting_step}
 use Rattle.queries.proofs.name_set.NameSet.write_sorted.Goals as goal
 
 pub loop-x-init : goal.loop-x-init

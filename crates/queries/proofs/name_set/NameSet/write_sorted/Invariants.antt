@@ -2,7 +2,7 @@ use lib.ListN.{length, get_or}
 use Rattle.rules.specs.Contents.{sort}
 use Rattle.records.specs.Good.{numbers}
 use Rattle.queries.specs.Marks.{picked}
-use Rattle.queries.specs.SortMarks.{Sorting}
+use Rattle.queries.proofs.SortMarks.{Sorting}
 use Rattle.queries.proofs.name_set.NameSet.write_sorted.Given as goal
 
 abbrev pub invariant-loop-x : goal.invariant-loop-x

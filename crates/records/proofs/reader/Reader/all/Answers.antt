@@ -1,5 +1,5 @@
 use Rattle.std.proofs.Common.{arith, false}
-use Rattle.records.specs.Moves.{part-moves}
+use Rattle.records.proofs.Moves.{part-moves}
 use Rattle.records.proofs.Parts.{part-fail, part-step, parts-told}
 use Rattle.records.proofs.reader.Reader.all.Goals as goal
 

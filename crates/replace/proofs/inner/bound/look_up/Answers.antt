@@ -1,7 +1,7 @@
 -- `look_up` meets its contract.
 use mathlib.Core.Path.{sym, ◌∙◌}
 use Rattle.records.specs.Holds.{openOf}
-use Rattle.replace.specs.Places.{says_none, says_some, says_at}
+use Rattle.replace.proofs.Places.{says_none, says_some, says_at}
 use Rattle.replace.proofs.inner.bound.look_up.Goals as goal
 
 pub returns-then-w-eq0 : goal.returns-then-w-eq0

@@ -2,8 +2,8 @@ use Rattle.std.proofs.lemmas.Result.{err_from_is_err_and}
 use Rattle.std.proofs.Common.{sym, subst, arith, ◌∙◌, ◌≤◌}
 use Rattle.rules.specs.Base.{bounded}
 use Rattle.rules.specs.Trees.{sizeCon}
-use Rattle.laws.specs.Untouched.{con_same}
-use Rattle.records.specs.Cut.{short-con}
+use Rattle.laws.proofs.Untouched.{con_same}
+use Rattle.records.proofs.Cut.{short-con}
 use Rattle.types.specs.Written.{Writes}
 use Rattle.replace.specs.Well.{names}
 use Rattle.replace.proofs.Touches.{con-untouched}

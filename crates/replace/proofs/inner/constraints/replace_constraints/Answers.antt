@@ -1,7 +1,7 @@
 -- What is left to write decides.
 use Rattle.std.proofs.Common.{ap}
 use Rattle.std.proofs.lemmas.Result.{err_from_is_err_and}
-use Rattle.types.specs.Sets.{alone, placed-alone}
+use Rattle.types.proofs.OnSets.{alone, placed-alone}
 use Rattle.replace.proofs.Each.{still-all, still-good, still-more, still-stops, still-ends}
 use Rattle.replace.proofs.Walks.{told}
 use Rattle.replace.proofs.inner.constraints.replace_constraints.Goals as goal

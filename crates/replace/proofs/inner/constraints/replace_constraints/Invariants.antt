@@ -1,5 +1,5 @@
 use Rattle.rules.specs.Writing.{writeCon}
-use Rattle.types.specs.Sets.{alone}
+use Rattle.types.proofs.OnSets.{alone}
 use Rattle.types.specs.Shapes.{cons_of}
 use Rattle.replace.specs.Well.{GoodCon}
 use Rattle.replace.specs.Leaves.{conBy}

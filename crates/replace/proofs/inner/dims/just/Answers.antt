@@ -6,7 +6,7 @@ use Rattle.rules.specs.Products.{just}
 use Rattle.rules.specs.Replacing.{asProduct}
 use Rattle.rules.specs.Trees.{◌↑◌, free}
 use Rattle.records.specs.Holds.{openOf}
-use Rattle.replace.specs.InProducts.{fine-told, fine-refused}
+use Rattle.replace.proofs.InProducts.{fine-told, fine-refused}
 use Rattle.replace.proofs.inner.dims.just.Goals as goal
 
 pub returns-in-Var : goal.returns-in-Var

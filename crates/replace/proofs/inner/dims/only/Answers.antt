@@ -2,7 +2,7 @@
 use Rattle.std.specs.Prelude.{[]}
 use Rattle.std.proofs.Common.{arith, ap, ◌∙◌}
 use Rattle.products.specs.Told.{given}
-use Rattle.products.specs.Places.{put-given, given-len}
+use Rattle.products.proofs.Places.{put-given, given-len}
 use Rattle.replace.proofs.inner.dims.only.Goals as goal
 
 pub push-requires : goal.push-requires

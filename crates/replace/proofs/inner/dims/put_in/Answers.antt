@@ -1,8 +1,8 @@
 -- `put_in` meets its contract: the first of the four steps that refuses, refuses the whole.
 use Rattle.std.proofs.lemmas.Result.{err_from_is_err_and}
-use Rattle.products.specs.Held.{well-sound}
-use Rattle.products.specs.Kinds.{value-back}
-use Rattle.replace.specs.InProducts.{taken, only-whole, exp-good, D, L, M, put_first, put_second, put-third, put_last}
+use Rattle.products.proofs.Held.{well-sound}
+use Rattle.products.proofs.OnKinds.{value-back}
+use Rattle.replace.proofs.InProducts.{taken, only-whole, exp-good, D, L, M, put_first, put_second, put-third, put_last}
 use Rattle.replace.proofs.inner.dims.put_in.Goals as goal
 
 pub returns-in_err-bound : goal.returns-in_err-bound

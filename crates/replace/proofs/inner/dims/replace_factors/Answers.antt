@@ -5,7 +5,7 @@ use Rattle.std.proofs.lemmas.Result.{err_from_is_err_and}
 use Rattle.rules.specs.Refusals.{toldOptionBy}
 use Rattle.types.specs.Shapes.{tree_of as type_of}
 use Rattle.products.specs.Told.{answer, factorAt, tree_of}
-use Rattle.replace.specs.InProducts.{taken, fine-told, fine-at, atom-good, put-none, put-bound, going_start, going-stop, going_on, going_end}
+use Rattle.replace.proofs.InProducts.{taken, fine-told, fine-at, atom-good, put-none, put-bound, going_start, going-stop, going_on, going_end}
 use Rattle.replace.proofs.inner.dims.replace_factors.Goals as goal
 use Rattle.replace.proofs.inner.dims.replace_factors.Goals.{in-Some+in_ok-acc, in_default}
 

@@ -1,7 +1,7 @@
 use Rattle.std.proofs.Common.{◌≤◌}
 use Rattle.products.specs.Told.{Tree}
 use Rattle.replace.specs.Well.{Whole}
-use Rattle.replace.specs.InProducts.{Going}
+use Rattle.replace.proofs.InProducts.{Going}
 use Rattle.replace.proofs.inner.dims.replace_factors.Given as goal
 
 abbrev pub invariant-loop-i : goal.invariant-loop-i

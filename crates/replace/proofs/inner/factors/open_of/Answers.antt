@@ -1,6 +1,6 @@
 -- `open_of` meets its contract.
 use Rattle.std.proofs.Common.{arith}
-use Rattle.replace.specs.Opened.{open-var, open-par, open-quant, open_none}
+use Rattle.replace.proofs.Opened.{open-var, open-par, open-quant, open_none}
 use Rattle.replace.proofs.inner.factors.open_of.Goals as goal
 
 pub returns-in-11 : goal.returns-in-11

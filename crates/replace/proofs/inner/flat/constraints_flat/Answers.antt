@@ -1,6 +1,6 @@
 -- Those that are left decide.
 use Rattle.std.proofs.Common.{ap}
-use Rattle.types.specs.Sets.{alone, placed-alone}
+use Rattle.types.proofs.OnSets.{alone, placed-alone}
 use Rattle.replace.proofs.Nested.{all-decide, none-deep, first-good, flat-on, too-deep, con-flat, con-deep}
 use Rattle.replace.proofs.inner.flat.constraints_flat.Goals as goal
 

@@ -1,6 +1,6 @@
 use Rattle.rules.specs.Trees.{depthCon}
 use Rattle.records.specs.Good.{goodCon}
-use Rattle.types.specs.Sets.{alone}
+use Rattle.types.proofs.OnSets.{alone}
 use Rattle.types.specs.Shapes.{cons_of}
 use Rattle.replace.proofs.Nested.{Deciding}
 use Rattle.replace.proofs.inner.flat.constraints_flat.Given as goal

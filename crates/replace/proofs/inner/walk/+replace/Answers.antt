@@ -1,10 +1,10 @@
 -- `replace_type` and `replace_list` call one another: the number of records left falls.
 use Rattle.std.proofs.Common.{arith, ap}
 use Rattle.std.proofs.lemmas.Result.{err_from_is_err_and}
-use Rattle.records.specs.ByView.{size-pos}
+use Rattle.records.proofs.ByView.{size-pos}
 use Rattle.records.specs.Holds.{openOf}
-use Rattle.types.specs.Puts.{sizes}
-use Rattle.replace.specs.Leaves.{sizeParts}
+use Rattle.types.proofs.Puts.{sizes}
+use Rattle.replace.proofs.Leaves.{sizeParts}
 use Rattle.replace.proofs.Walks.{
   told,
   sizes-fields,

@@ -1,6 +1,6 @@
 use Rattle.std.proofs.Common.{◌+◌, ◌*◌}
 use Rattle.rules.specs.Trees.{size}
-use Rattle.replace.specs.Leaves.{sizeParts}
+use Rattle.replace.proofs.Leaves.{sizeParts}
 use Rattle.replace.proofs.inner.walk.+replace.Given as goal
 
 abbrev pub decreases-replace_type : goal.decreases-replace_type

@@ -3,8 +3,8 @@ use Rattle.std.proofs.Math.Option.{Option, get_or}
 use Rattle.rules.specs.Trees.{Ty, opens}
 use Rattle.records.specs.Holds.{openOf}
 use Rattle.rules.specs.Base.{bounded}
-use Rattle.laws.specs.Untouched.{Unbound, ty_same}
-use Rattle.records.specs.Cut.{short-ty}
+use Rattle.laws.proofs.Untouched.{Unbound, ty_same}
+use Rattle.records.proofs.Cut.{short-ty}
 use Rattle.types.specs.Written.{Writes}
 use Rattle.replace.specs.Well.{names}
 use Rattle.replace.proofs.Touches.{none-replaced}

@@ -1,6 +1,6 @@
 use Rattle.std.proofs.Common.{sym, ◌∙◌}
 use Rattle.records.specs.Holds.{openOf}
-use Rattle.replace.specs.Substitutions.{none-said, said-at, some-said}
+use Rattle.replace.proofs.Substitutions.{none-said, said-at, some-said}
 use Rattle.replace.proofs.substitution.Substitution.look_up.Goals as goal
 
 pub returns-then-w-eq0 : goal.returns-then-w-eq0

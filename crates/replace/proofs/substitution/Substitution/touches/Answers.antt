@@ -1,7 +1,7 @@
 -- `touches` meets its contract. The invariant: the records from i on decide.
 use Rattle.std.proofs.Common.{ap, sym, ◌∙◌}
 use Rattle.rules.specs.Base.{any}
-use Rattle.queries.specs.ScanLaws.{opens-none}
+use Rattle.queries.proofs.ScanLaws.{opens-none}
 use Rattle.replace.specs.Leaves.{replaced}
 use Rattle.replace.proofs.Touches.{hit, miss}
 use Rattle.replace.proofs.substitution.Substitution.touches.Goals as goal

@@ -1,6 +1,7 @@
 use Rattle.std.proofs.Common.{sym, ap, ◌∙◌, Bool}
 use Rattle.records.specs.Holds.{openOf}
-use Rattle.schemes_handed.specs.Bounds.{ifAll, bound-found, bound-open, bound-kept, bound-written, bound-left-out}
+use Rattle.schemes_handed.specs.Bounds.{ifAll}
+use Rattle.schemes_handed.proofs.OnBounds.{bound-found, bound-open, bound-kept, bound-written, bound-left-out}
 use Rattle.schemes_handed.proofs.inner.bounds.put_bound.Goals as goal
 
 pub returns-in-Open : goal.returns-in-Open

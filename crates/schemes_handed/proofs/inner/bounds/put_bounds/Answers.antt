@@ -1,5 +1,5 @@
 use Rattle.std.proofs.Common.{arith, sym, ◌∙◌}
-use Rattle.schemes_handed.specs.Bounds.{going-start, going-on, going-other, going-end}
+use Rattle.schemes_handed.proofs.OnBounds.{going-start, going-on, going-other, going-end}
 use Rattle.schemes_handed.proofs.inner.bounds.put_bounds.Goals.{in-Bound, in_default}
 use Rattle.schemes_handed.proofs.inner.bounds.put_bounds.Goals as goal
 

@@ -1,4 +1,5 @@
-use Rattle.schemes_handed.specs.Bounds.{Rename, Renames, Going}
+use Rattle.schemes_handed.specs.Bounds.{Rename, Renames}
+use Rattle.schemes_handed.proofs.OnBounds.{Going}
 use Rattle.schemes_handed.proofs.inner.bounds.put_bounds.Given as goal
 
 abbrev pub invariant-loop-i : goal.invariant-loop-i

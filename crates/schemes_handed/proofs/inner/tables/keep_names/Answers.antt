@@ -1,6 +1,7 @@
 -- `inner::tables::keep_names` meets its contract.
 use Rattle.std.proofs.Common.{◌≡◌, refl, ap, ◌∙◌, ℕ, arith, get_or}
-use Rattle.schemes_handed.specs.Tables.{ownPlaces, ownTypes, own-places, own-types}
+use Rattle.schemes_handed.specs.Tables.{ownPlaces, ownTypes}
+use Rattle.schemes_handed.proofs.Tables.{own-places, own-types}
 use Rattle.schemes_handed.proofs.inner.tables.keep_names.Goals as goal
 
 pub count-x-end-requires : goal.count-x-end-requires

@@ -1,7 +1,8 @@
 -- `inner::tables::put_names_back` meets its contract. The invariant: the names from i on are in the table.
 use Rattle.std.proofs.Common.{refl, ap, ◌≡◌, ◌∙◌, ◌-◌, ℕ, arith, length, drop}
 use Rattle.schemes_handed.proofs.Numbers.{small}
-use Rattle.schemes_handed.specs.Tables.{backPlaces, back-places, no-back-places}
+use Rattle.schemes_handed.specs.Tables.{backPlaces}
+use Rattle.schemes_handed.proofs.Tables.{back-places, no-back-places}
 use Rattle.schemes_handed.proofs.inner.tables.put_names_back.Goals as goal
 
 pub loop-i-init : goal.loop-i-init

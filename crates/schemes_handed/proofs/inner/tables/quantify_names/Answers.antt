@@ -1,7 +1,8 @@
 -- `inner::tables::quantify_names` meets its contract. The invariant: the names from i on are in the tables.
 use Rattle.std.proofs.Common.{refl, ap, ◌≡◌, ◌∙◌, ◌-◌, ℕ, arith, length, drop}
 use Rattle.schemes_handed.proofs.Numbers.{small}
-use Rattle.schemes_handed.specs.Tables.{quantPlaces, quantTypes, quant-places, quant-types, no-quant-places, no-quant-types}
+use Rattle.schemes_handed.specs.Tables.{quantPlaces, quantTypes}
+use Rattle.schemes_handed.proofs.Tables.{quant-places, quant-types, no-quant-places, no-quant-types}
 use Rattle.schemes_handed.proofs.inner.tables.quantify_names.Goals as goal
 
 pub loop-i-init : goal.loop-i-init

@@ -1,7 +1,7 @@
 -- `inner::instantiating::instantiate_scheme` meets its contract.
 use Rattle.std.proofs.Common.{ap}
 use Rattle.schemes_handed.specs.Given.{scheme_in}
-use Rattle.schemes_instantiate.specs.Ready.{no-scheme, wrong-count, right-count}
+use Rattle.schemes_instantiate.proofs.Ready.{no-scheme, wrong-count, right-count}
 use Rattle.schemes_instantiate.proofs.inner.instantiating.instantiate_scheme.Goals as goal
 
 pub returns-in-Concrete : goal.returns-in-Concrete

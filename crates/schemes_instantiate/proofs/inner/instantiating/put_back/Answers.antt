@@ -5,11 +5,11 @@ use Rattle.rules.specs.Names.{table_of, is_held}
 use Rattle.rules.specs.Schemes.{renamed, back}
 use Rattle.schemes_renaming.proofs.Own.{own}
 use Rattle.records.specs.Parsed.{only}
-use Rattle.replace.specs.Substitutions.{same-look}
+use Rattle.replace.proofs.Substitutions.{same-look}
 use Rattle.replace.specs.Well.{GoodTy}
 use Rattle.replace.proofs.Looks.{type-as}
 use Rattle.replace.proofs.Walks.{told}
-use Rattle.schemes_instantiate.specs.Ready.{back-tables, own-tables, came, first-stopped, first-held, read-near, second-stopped, all_made}
+use Rattle.schemes_instantiate.proofs.Ready.{back-tables, own-tables, came, first-stopped, first-held, read-near, second-stopped, all_made}
 use Rattle.schemes_instantiate.proofs.inner.instantiating.put_back.Goals as goal
 
 pub invariant_of-back : goal.invariant_of-back

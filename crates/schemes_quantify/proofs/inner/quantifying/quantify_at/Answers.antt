@@ -1,10 +1,10 @@
 use Rattle.std.proofs.Common.{◌≡◌, refl, rules}
 use Rattle.std.proofs.lemmas.Result.{err_from_is_err_and}
 use Rattle.rules.specs.Schemes.{renamed}
-use Rattle.replace.specs.Substitutions.{same-look}
+use Rattle.replace.proofs.Substitutions.{same-look}
 use Rattle.replace.proofs.Looks.{type-as}
 use Rattle.replace.proofs.Walks.{told}
-use Rattle.schemes_quantify.specs.Ready.{renaming, tables, type-stopped, all-long, all_made}
+use Rattle.schemes_quantify.proofs.Ready.{renaming, tables, type-stopped, all-long, all_made}
 use Rattle.schemes_quantify.proofs.inner.quantifying.quantify_at.Goals as goal
 
 pub invariant_of-by : goal.invariant_of-by

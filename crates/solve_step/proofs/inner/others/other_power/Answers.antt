@@ -1,7 +1,7 @@
 use Rattle.std.proofs.Common.{ap, ◌∙◌}
 use Rattle.rules.specs.Base.{bounded}
 use Rattle.rules.specs.Exponents.{Exp, goodExp, neg, quotient}
-use Rattle.laws.specs.Ranges.{neg-good}
+use Rattle.laws.proofs.Ranges.{neg-good}
 use Rattle.exponents.specs.Answers.{expOf}
 use Rattle.solve_step.proofs.inner.others.other_power.Goals as goal
 

@@ -1,10 +1,10 @@
 -- `inner::factors::enter_factor` meets its contract.
 use mathlib.Core.Path.{refl, sym, ◌∙◌}
 use mathlib.Core.List.{[]}
-use Rattle.text_names.specs.Effects.{ready_on, ready-next, kept-last, kept-stopped}
-use Rattle.text_names.specs.Inside.{inside-column}
+use Rattle.text_names.proofs.Effects.{ready_on, ready-next, kept-last, kept-stopped}
+use Rattle.text_names.proofs.Inside.{inside-column}
 use Rattle.text_dimensions.proofs.Longer.{well-stays}
-use Rattle.text_dimensions.specs.Factors.{idle, at-fine, at-halted, held-if, factor-done}
+use Rattle.text_dimensions.proofs.Factors.{idle, at-fine, at-halted, held-if, factor-done}
 use Rattle.text_dimensions.proofs.inner.factors.enter_factor.Goals as goal
 
 pub enter_atom-a-requires : goal.enter_atom-a-requires

@@ -1,9 +1,9 @@
 -- `inner::factors::enter_factors` meets its contract.
 use mathlib.Core.Path.{sym, ◌∙◌}
 use mathlib.Core.List.{[]}
-use Rattle.text_names.specs.Effects.{ready-next, kept_same}
-use Rattle.text_dimensions.specs.Times.{scalar-well, scalar-none}
-use Rattle.text_dimensions.specs.Factors.{no-factors, factors-done}
+use Rattle.text_names.proofs.Effects.{ready-next, kept_same}
+use Rattle.text_dimensions.proofs.Times.{scalar-well, scalar-none}
+use Rattle.text_dimensions.proofs.Factors.{no-factors, factors-done}
 use Rattle.text_dimensions.proofs.inner.factors.enter_factors.Goals as goal
 
 pub returns-then-next_is : goal.returns-then-next_is

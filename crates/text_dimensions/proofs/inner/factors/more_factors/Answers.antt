@@ -1,9 +1,9 @@
 -- `inner::factors::more_factors` meets its contract.
 use mathlib.Core.Path.{sym, ◌∙◌}
 use mathlib.Core.List.{[]}
-use Rattle.text_names.specs.Effects.{ready_on}
-use Rattle.text_names.specs.Inside.{inside-spelled}
-use Rattle.text_dimensions.specs.Factors.{following-here, following-on, following-ends, further-less}
+use Rattle.text_names.proofs.Effects.{ready_on}
+use Rattle.text_names.proofs.Inside.{inside-spelled}
+use Rattle.text_dimensions.proofs.Factors.{following-here, following-on, following-ends, further-less}
 use Rattle.text_dimensions.proofs.inner.factors.more_factors.Goals as goal
 
 pub loop-a-init : goal.loop-a-init

@@ -1,5 +1,5 @@
 use Rattle.text_grammar.specs.Points.{left_at}
-use Rattle.text_dimensions.specs.Factors.{Following}
+use Rattle.text_dimensions.proofs.Factors.{Following}
 use Rattle.text_dimensions.proofs.inner.factors.more_factors.Given as goal
 
 abbrev pub invariant-loop-a : goal.invariant-loop-a

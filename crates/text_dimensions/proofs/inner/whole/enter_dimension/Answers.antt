@@ -1,11 +1,11 @@
 -- `inner::whole::enter_dimension` meets its contract.
 use mathlib.Core.List.{[]}
 use native.Mathlib.Omega.{arith}
-use Rattle.products.specs.Held.{well-sound}
-use Rattle.products.specs.Places.{length-product}
-use Rattle.text_names.specs.Effects.{ready-count, ready_on}
-use Rattle.text_names.specs.Inside.{inside-column, inside-spelled}
-use Rattle.text_dimensions.specs.Whole.{dimension-done}
+use Rattle.products.proofs.Held.{well-sound}
+use Rattle.products.proofs.Places.{length-product}
+use Rattle.text_names.proofs.Effects.{ready-count, ready_on}
+use Rattle.text_names.proofs.Inside.{inside-column, inside-spelled}
+use Rattle.text_dimensions.proofs.Whole.{dimension-done}
 use Rattle.text_dimensions.proofs.inner.whole.enter_dimension.Goals as goal
 
 pub count-now-requires : goal.count-now-requires

@@ -1,8 +1,8 @@
 -- `inner::whole::put_product` meets its contract.
 use Rattle.std.proofs.Common.{arith, sym, ◌∙◌, rules}
-use Rattle.products.specs.Places.{length-product}
+use Rattle.products.proofs.Places.{length-product}
 use Rattle.products.specs.Told.{productOf}
-use Rattle.text_dimensions.specs.Whole.{written-length}
+use Rattle.text_dimensions.proofs.Whole.{written-length}
 use Rattle.text_dimensions.proofs.inner.whole.put_product.Goals as goal
 
 pub returns : goal.returns

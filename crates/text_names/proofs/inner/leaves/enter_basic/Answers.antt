@@ -1,6 +1,6 @@
 -- `inner::leaves::enter_basic` meets its contract.
-use Rattle.text_names.specs.Stands.{count-above}
-use Rattle.text_names.specs.Leaves.{basic-done}
+use Rattle.text_names.proofs.Stands.{count-above}
+use Rattle.text_names.proofs.Leaves.{basic-done}
 use Rattle.text_names.proofs.inner.leaves.enter_basic.Goals as goal
 
 pub put_head-requires : goal.put_head-requires

@@ -1,7 +1,8 @@
 -- `inner::leaves::enter_open` meets its contract.
-use Rattle.text_names.specs.Effects.{kept_then, kept_above, kept-count, ready-count, ready_on}
-use Rattle.text_names.specs.Inside.{inside-column, inside-spelled}
-use Rattle.text_names.specs.Leaves.{open_done}
+use Rattle.text_names.specs.Effects.{kept_then}
+use Rattle.text_names.proofs.Effects.{kept_above, kept-count, ready-count, ready_on}
+use Rattle.text_names.proofs.Inside.{inside-column, inside-spelled}
+use Rattle.text_names.proofs.Leaves.{open_done}
 use mathlib.Core.List.{[]}
 use native.Mathlib.Omega.{arith}
 use Rattle.text_names.proofs.inner.leaves.enter_open.Goals as goal

@@ -3,9 +3,9 @@ use mathlib.Core.Path.{refl}
 use native.Mathlib.Omega.{arith}
 use Rattle.rules.specs.TextReading.{named}
 use Rattle.laws.specs.NameTable.{good-laid}
-use Rattle.text_grammar.specs.Factors.{name-bad}
-use Rattle.text_names.specs.Effects.{kept_same, roomy, ends-bad}
-use Rattle.text_names.specs.Naming.{front_of, named-done}
+use Rattle.text_grammar.proofs.Factors.{name-bad}
+use Rattle.text_names.proofs.Effects.{kept_same, roomy, ends-bad}
+use Rattle.text_names.proofs.Naming.{front_of, named-done}
 use Rattle.text_names.proofs.inner.naming.enter_at.Goals as goal
 
 pub stand_after-requires : goal.stand_after-requires

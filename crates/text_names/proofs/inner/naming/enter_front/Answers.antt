@@ -2,7 +2,7 @@
 use mathlib.Core.Path.{refl, sym, ◌∙◌}
 use lib.Seq.{length-take-le}
 use native.Mathlib.Omega.{arith}
-use Rattle.text_names.specs.Naming.{too_long, front-entered}
+use Rattle.text_names.proofs.Naming.{too_long, front-entered}
 use Rattle.text_names.proofs.inner.naming.enter_front.Goals as goal
 
 pub returns-then-long-gt-NAME_BYTES : goal.returns-then-long-gt-NAME_BYTES

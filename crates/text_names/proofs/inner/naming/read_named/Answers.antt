@@ -1,9 +1,11 @@
 -- `inner::naming::read_named` meets its contract.
 use Rattle.rules.specs.Grammar.{name}
 use Rattle.rules.specs.TextReading.{named}
-use Rattle.text_grammar.specs.Points.{Any, stays}
-use Rattle.text_grammar.specs.Factors.{noName, name-past}
-use Rattle.text_names.specs.Effects.{only-reads, elsewhere}
+use Rattle.text_grammar.specs.Points.{Any}
+use Rattle.text_grammar.proofs.Points.{stays}
+use Rattle.text_grammar.specs.Factors.{noName}
+use Rattle.text_grammar.proofs.Factors.{name-past}
+use Rattle.text_names.proofs.Effects.{only-reads, elsewhere}
 use Rattle.text_names.proofs.inner.naming.read_named.Goals as goal
 
 pub enter_at-requires : goal.enter_at-requires

@@ -1,6 +1,6 @@
 -- `inner::naming::stand_after` meets its contract.
 use native.Mathlib.Omega.{arith}
-use Rattle.text_names.specs.Naming.{after-number, new-small}
+use Rattle.text_names.proofs.Naming.{after-number, new-small}
 use Rattle.text_names.proofs.inner.naming.stand_after.Goals as goal
 
 pub overflow_add-result : goal.overflow_add-result

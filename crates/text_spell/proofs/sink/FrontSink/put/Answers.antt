@@ -2,7 +2,7 @@
 use Rattle.std.proofs.Common.{◌≡◌, ◌+◌, ◌-◌, ◌≤◌, ◌++◌, refl, sym, ap, ◌∙◌, arith, length, take}
 use Rattle.std.proofs.lemmas.List.{drop-drop}
 use Rattle.std.proofs.lemmas.Slice.{take-put_mid, drop-put_mid}
-use Rattle.text_spell.specs.Sinks.{behind}
+use Rattle.text_spell.proofs.Sinks.{behind}
 use Rattle.text_spell.proofs.sink.FrontSink.put.Goals as goal
 
 pub returns : goal.returns

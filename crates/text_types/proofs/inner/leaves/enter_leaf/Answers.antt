@@ -1,8 +1,8 @@
 -- `inner::leaves::enter_leaf` meets its contract.
 use Rattle.std.proofs.Common.{sym, ◌∙◌, rules}
-use Rattle.text_dimensions.specs.Whole.{dim-done}
-use Rattle.text_grammar.specs.Choice.{by-var, by-par, by-dimension, by_bool, by-string, by-datetime}
-use Rattle.text_types.specs.Rows.{done-by, no-head, no-type}
+use Rattle.text_dimensions.proofs.Whole.{dim-done}
+use Rattle.text_grammar.proofs.Choice.{by-var, by-par, by-dimension, by_bool, by-string, by-datetime}
+use Rattle.text_types.proofs.Rows.{done-by, no-head, no-type}
 use Rattle.text_types.proofs.inner.leaves.enter_leaf.Goals as goal
 
 pub returns-in-63 : goal.returns-in-63

@@ -4,13 +4,14 @@ use mathlib.Core.List.{[]}
 use native.Mathlib.Omega.{arith}
 use Rattle.std.proofs.Common.{rules}
 use Rattle.rules.specs.Grammar.{type}
-use Rattle.text_grammar.specs.Choice.{by-function, by-list, by-structure}
-use Rattle.text_names.specs.Effects.{kept_then, kept_above, kept-count, ready-count, ready_on, ready-next}
-use Rattle.text_names.specs.Inside.{inside-column, inside-spelled}
-use Rattle.text_types.specs.Parts.{from-counted, list_done, function-done}
-use Rattle.text_types.specs.Members.{ready-tested, field-by, structure-done}
-use Rattle.text_types.specs.Rows.{tys-start, tys-turn, tys-fall, tys-done, fields-start, fields-turn, fields-fall, fields-done, some-params, no-params}
-use Rattle.text_types.specs.Rows.{some-types, no-types, some-fields, no_fields, done-by, type-zero, type-some}
+use Rattle.text_grammar.proofs.Choice.{by-function, by-list, by-structure}
+use Rattle.text_names.specs.Effects.{kept_then}
+use Rattle.text_names.proofs.Effects.{kept_above, kept-count, ready-count, ready_on, ready-next}
+use Rattle.text_names.proofs.Inside.{inside-column, inside-spelled}
+use Rattle.text_types.proofs.Parts.{from-counted, list_done, function-done}
+use Rattle.text_types.proofs.Members.{ready-tested, field-by, structure-done}
+use Rattle.text_types.proofs.Rows.{tys-start, tys-turn, tys-fall, tys-done, fields-start, fields-turn, fields-fall, fields-done, some-params, no-params}
+use Rattle.text_types.proofs.Rows.{some-types, no-types, some-fields, no_fields, done-by, type-zero, type-some}
 use Rattle.text_types.proofs.inner.nested.+types.Goals as goal
 
 pub enter_arguments-enter_types-ts-requires : goal.enter_arguments-enter_types-ts-requires

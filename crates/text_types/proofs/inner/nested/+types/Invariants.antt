@@ -1,7 +1,7 @@
 use Rattle.rules.specs.Grammar.{type}
 use Rattle.text_grammar.specs.Points.{left_at}
 use Rattle.text_names.specs.Effects.{lent}
-use Rattle.text_types.specs.Rows.{TysLoop, FieldsLoop}
+use Rattle.text_types.proofs.Rows.{TysLoop, FieldsLoop}
 use Prim.Native.Nat.{◌+◌, ◌*◌}
 use Rattle.text_types.proofs.inner.nested.+types.Given as goal
 

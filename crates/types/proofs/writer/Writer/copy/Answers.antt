@@ -1,7 +1,7 @@
 use Rattle.std.proofs.Common.{arith}
-use Rattle.laws.specs.Size.{size-ty}
+use Rattle.laws.proofs.Size.{size-ty}
 use Rattle.records.specs.ByView.{ends-in}
-use Rattle.types.specs.Puts.{type-words}
+use Rattle.types.proofs.Puts.{type-words}
 use Rattle.types.proofs.writer.Writer.copy.Goals as goal
 
 pub copy_records-requires : goal.copy_records-requires

@@ -1,6 +1,6 @@
 use Rattle.std.proofs.Common.{arith}
-use Rattle.laws.specs.Size.{bindings-length}
-use Rattle.types.specs.Puts.{binds-within, binds-words, no-bindings}
+use Rattle.laws.proofs.Size.{bindings-length}
+use Rattle.types.proofs.Puts.{binds-within, binds-words, no-bindings}
 use Rattle.types.proofs.writer.Writer.copy_bindings.Goals as goal
 
 pub copy_records-requires : goal.copy_records-requires

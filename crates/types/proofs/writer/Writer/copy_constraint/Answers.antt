@@ -1,7 +1,7 @@
 use Rattle.std.proofs.Common.{arith}
-use Rattle.laws.specs.Size.{size-con}
-use Rattle.records.specs.ByView.{con-in}
-use Rattle.types.specs.Puts.{con-words}
+use Rattle.laws.proofs.Size.{size-con}
+use Rattle.records.proofs.ByView.{con-in}
+use Rattle.types.proofs.Puts.{con-words}
 use Rattle.types.proofs.writer.Writer.copy_constraint.Goals as goal
 
 pub copy_records-requires : goal.copy_records-requires

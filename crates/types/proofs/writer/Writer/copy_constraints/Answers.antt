@@ -1,6 +1,6 @@
 use Rattle.std.proofs.Common.{arith}
-use Rattle.laws.specs.Size.{set-length}
-use Rattle.types.specs.Puts.{set-within, set-words, no-set}
+use Rattle.laws.proofs.Size.{set-length}
+use Rattle.types.proofs.Puts.{set-within, set-words, no-set}
 use Rattle.types.proofs.writer.Writer.copy_constraints.Goals as goal
 
 pub copy_records-requires : goal.copy_records-requires

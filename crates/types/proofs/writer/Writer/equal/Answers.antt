@@ -1,5 +1,5 @@
 use Rattle.std.proofs.Common.{arith}
-use Rattle.types.specs.Puts.{short, equal-writes}
+use Rattle.types.proofs.Puts.{short, equal-writes}
 use Rattle.types.proofs.writer.Writer.equal.Goals as goal
 
 pub overflow_add-len : goal.overflow_add-len

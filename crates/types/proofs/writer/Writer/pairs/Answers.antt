@@ -1,5 +1,5 @@
 use Rattle.std.proofs.Common.{arith}
-use Rattle.types.specs.Puts.{falls, sizes, still-next, still-left, still-right}
+use Rattle.types.proofs.Puts.{falls, sizes, still-next, still-left, still-right}
 use Rattle.types.proofs.writer.Writer.pairs.Goals as goal
 
 pub equal-requires : goal.equal-requires

@@ -1,6 +1,6 @@
 use Rattle.std.proofs.Common.{◌+◌, ◌<◌}
 use Rattle.rules.specs.Trees.{sizeTys}
-use Rattle.types.specs.Puts.{Still}
+use Rattle.types.proofs.Puts.{Still}
 use Rattle.types.proofs.writer.Writer.pairs.Given as goal
 
 abbrev pub invariant-pairs : goal.invariant-pairs

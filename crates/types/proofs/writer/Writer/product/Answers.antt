@@ -1,5 +1,5 @@
 use Rattle.std.proofs.Common.{arith, ap, ◌≡◌, ℕ, ◌∙◌, drop}
-use Rattle.products.specs.Places.{at_place, at-end, length-product}
+use Rattle.products.proofs.Places.{at_place, at-end, length-product}
 use Rattle.products.specs.Told.{productOf, tree_of, factorAt}
 use Rattle.types.proofs.Factors.{write-head, write-factor, write-end}
 use Rattle.types.proofs.writer.Writer.product.Goals as goal

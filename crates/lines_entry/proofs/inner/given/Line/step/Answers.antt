@@ -3,7 +3,7 @@ use mathlib.Core.Path.{refl}
 use native.Mathlib.Omega.{arith}
 use Rattle.std.proofs.Common.{◌∙◌}
 use Rattle.rules.specs.Steps.{adds, subtracts, multiplies, divides, compares, isConstant, isReference, isRaise, stepKind}
-use Rattle.lines_entry.specs.StepLists.{step-as, step-joins, step-chooses, step-unknown}
+use Rattle.lines_entry.proofs.StepLists.{step-as, step-joins, step-chooses, step-unknown}
 use Rattle.lines_entry.proofs.inner.given.Line.step.Goals as goal
 
 pub returns-in-1 : goal.returns-in-1

@@ -1,0 +1,3 @@
+pub mod Determined
+pub mod Handed
+pub mod OnLent

@@ -1,0 +1,2 @@
+pub mod Core
+pub mod Ready

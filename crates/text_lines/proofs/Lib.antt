@@ -1,0 +1,3 @@
+pub mod Answers
+pub mod Shapes
+pub mod Statements

@@ -1,0 +1,5 @@
+pub mod Effects
+pub mod Inside
+pub mod Leaves
+pub mod Naming
+pub mod Stands

@@ -1,0 +1,3 @@
+pub mod Members
+pub mod Parts
+pub mod Rows

@@ -1,0 +1,146 @@
+#!/usr/bin/env python3
+"""Names what stands in a folder specs/ and no contract cites: it belongs in proofs/.
+
+A contract is what a clause of src/ names, and every definition that such a definition names in turn. Cases that are computed beside definitions (CasesOf..,
+Examples) stay there, with what they name; the crate `rules` is read for its definitions alone and isn't looked at. `--lines` tells for each crate how many
+lines its specs/ has."""
+import re
+import sys
+from collections import defaultdict
+from pathlib import Path
+
+CRATES = Path(__file__).resolve().parent.parent / "crates"
+CASES = re.compile(r"(Cases(Of\w*)?|\w*Examples)$")
+TOKEN = re.compile(r"[^\s(){}\[\],;]+")
+USE = re.compile(r"^ *(pub )?(?:ghost )?use (\w+(?:\.\w+)*)(?:\.\{([^}]*)\}| as ([^\s;]+))?", re.M)
+START = re.compile(r"^ *((?:(?:pub|abbrev|unfoldable) )*)(record |data |ruleset )?(\S+)((?: .*)?)$")
+BOUND = re.compile(r"[({]\s*((?:[^\s:(){}\[\],;]+\s+)+):\s")
+
+
+def bare(text):
+    """Without comments."""
+    return re.sub(r"(^|(?<=[\s(]))--[^\n]*", "", text, flags=re.M)
+
+
+class Module:
+    """A file of specs/ or proofs/: its declarations by name, each with the lines that it stands in, and where its other names come from."""
+
+    def __init__(self, path):
+        crate, part, *rest = path.relative_to(CRATES).with_suffix("").parts
+        self.crate, self.part, self.file = crate, part, "/".join(rest)
+        self.text, self.names, self.whole, self.owner, self.together = bare(path.read_text(encoding="utf-8")), {}, {}, {}, {}
+        for _, place, names, whole in USE.findall(self.text):
+            for name in filter(None, map(str.strip, names.split(","))):
+                self.names[name.split(" as ")[-1]] = (place, name.split(" as ")[0])
+            self.whole[whole or place.split(".")[-1]] = place
+        self.declared = defaultdict(list)
+        self.read(self.text.split("\n"))
+
+    def read(self, lines):
+        blocks, name, at = [(0, "", None)], None, 0
+        while at < len(lines):
+            line, indent = lines[at], len(lines[at]) - len(lines[at].lstrip())
+            while line.strip() and indent < blocks[-1][0]:
+                blocks.pop()
+            if re.match(r" *(module _|(\w+ )*mutual$)", line):
+                end = next(i for i in range(at, len(lines)) if re.search(r"\b(where|mutual)\s*$", lines[i]))
+                inner = next(i for i in range(end + 1, len(lines)) if lines[i].strip())
+                head = " ".join([blocks[-1][1], *lines[at:end + 1]])
+                mutual = [] if line.endswith("mutual") else None
+                blocks.append((len(lines[inner]) - len(lines[inner].lstrip()), head, mutual))
+                name, at = None, end + 1
+                continue
+            found = START.match(line) if line.strip() and indent == blocks[-1][0] else None
+            if found and (found[1] or found[2] or re.match(r" *:", found[4])) and found[3] not in ("use", "unfolding"):
+                name = found[3].rstrip(":")
+                self.declared[name].append(blocks[-1][1])
+                kind = found[2]
+                if blocks[-1][2] is not None:
+                    blocks[-1][2].append(name)
+                    self.together[name] = blocks[-1][2]
+            if name:
+                self.declared[name].append(line)
+                made = re.match(r"\s+([^\s:(){}]+(?: [^\s:(){}]+)*) : ", line) if kind == "data " else None
+                self.owner.update({it: name for it in made[1].split()} if made else {})
+            at += 1
+
+
+def resolved(modules, place, word, seen=()):
+    """Where the name stands that a module knows by this word: pairs of a module and a declaration's name."""
+    module = modules.get(place)
+    if module is None or place in seen:
+        return
+    first, _, rest = word.partition(".")
+    for name in {word, first}:
+        if name in module.declared:
+            yield place, name
+        elif name in module.owner:
+            yield place, module.owner[name]
+        elif name in module.names:
+            yield from resolved(modules, *module.names[name], (*seen, place))
+    if rest and first in module.whole:
+        yield from resolved(modules, module.whole[first], rest, (*seen, place))
+
+
+def variables(text):
+    """Names that stand for what is bound near them: parameters, patterns, λ, let, steps."""
+    groups = BOUND.findall(text) + re.findall(r"λ ([^.()]*)\.", text) + re.findall(r"^\s*[^\s()→]+ ([^=:{≡→\n]*?) = ", text, re.M)
+    alone = re.findall(r"\blet ([^\s()]+) [:=]", text) + re.findall(r"^\s*(\S+) ← ", text, re.M)
+    return {word for group in groups + alone for word in TOKEN.findall(group)}
+
+
+def cited(modules, place, text):
+    """What a text in this module names."""
+    module = modules[place]
+    words = set(TOKEN.findall(text)) - (variables(text) - module.owner.keys())
+    # an operator is cited by its parts, and ◌>>=◌ by steps one after another
+    mixed = {n for n in [*module.declared, *module.names] if "◌" in n and all(p in words for p in n.split("◌") if p)}
+    steps = {"◌>>=◌"} if "←" in words else set()
+    for word in words | mixed | steps:
+        yield from resolved(modules, place, word)
+
+
+def promised(modules):
+    """What clauses name."""
+    for path in CRATES.glob("*/src/**/*.rt"):
+        text = path.read_text(encoding="utf-8")
+        for _, place, names, whole in USE.findall(text):
+            for name in filter(None, map(str.strip, names.split(","))):
+                yield from resolved(modules, place, name.split(" as ")[0])
+            if not names:
+                for name in set(re.findall(rf"(?<![\w.]){re.escape(whole or place.split('.')[-1])}\.([^\s(){{}}\[\],;]+)", text)):
+                    yield from resolved(modules, place, name)
+        for crate, file, name in re.findall(r"(\w+)::specs::([\w:]+)::(\w+)", " ".join(re.findall(r"unfolding\(([^()]*)\)", text))):
+            home = path.relative_to(CRATES).parts[0] if crate == "crate" else crate
+            yield from resolved(modules, f"Rattle.{home}.specs.{file.replace('::', '.')}", name)
+    for place, module in modules.items():
+        if module.part == "specs" and CASES.match(module.file):
+            yield from cited(modules, place, module.text)
+
+
+def main():
+    paths = [p for part in ("specs", "proofs") for p in CRATES.glob(f"*/{part}/**/*.antt") if p.name != "Lib.antt" and "out" not in p.parts]
+    made = map(Module, paths)
+    modules = {f"Rattle.{m.crate}.{m.part}.{m.file.replace('/', '.')}": m for m in made}
+    reached, left = set(), list(promised(modules))
+    while left:
+        here = left.pop()
+        if here not in reached:
+            reached.add(here)
+            module = modules[here[0]]
+            left += cited(modules, here[0], "\n".join(module.declared[here[1]]))
+            left += [(here[0], name) for name in module.together.get(here[1], [])]
+    idle, lines = [], defaultdict(int)
+    for place, module in sorted(modules.items()):
+        if module.part == "specs" and module.crate != "rules" and not CASES.match(module.file) and not module.file.startswith("declared"):
+            lines[module.crate] += sum(bool(line.strip()) for of in module.declared.values() for line in of[1:])
+            idle += [f"crates/{module.crate}/specs/{module.file}.antt: no contract cites {n}" for n in module.declared if (place, n) not in reached]
+    print(*idle, sep="\n", end="\n" if idle else "")
+    if "--lines" in sys.argv:
+        print(*[f"{c} {n}" for c, n in sorted(lines.items(), key=lambda it: -it[1])], sep="\n")
+    print(f"{sum(lines.values())} lines of definitions beside rules, {len(idle)} names that no contract cites")
+    return 1 if idle else 0
+
+
+if __name__ == "__main__":
+    sys.exit(main())
