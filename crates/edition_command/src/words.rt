@@ -1,5 +1,7 @@
 // The words of the command line.
-ghost use Rattle.std.specs.Prelude.{◌≡◌, ◌+◌, [], length, OnOk};
+ghost use Rattle.std.specs.Prelude.{◌≡◌, ◌++◌, [], ◌∷◌, map, OnOk};
+ghost use Rattle.std.specs.Str.Lossy.{utf8_lossy};
+ghost use Rattle.std.specs.String.{string_bytes};
 
 use anyhow::Result;
 use std::alloc::Global;
@@ -22,9 +24,9 @@ impl Words {
         }
     }
 
-    /// One more word.
+    /// One more word: these bytes, each part that isn't UTF-8 replaced by a mark.
     pub fn add(&mut self, bytes: &[u8]) -> Result<()>
-        ensures { OnOk result (length self.new.all.items ≡ length self.old.all.items + 1) }
+        ensures { OnOk result (map string_bytes self.new.all.items ≡ map string_bytes self.old.all.items ++ (utf8_lossy bytes.now ∷ [])) }
     {
         let alloc = *self.all.allocator();
         let word = String::from_utf8_lossy(alloc, bytes)?;

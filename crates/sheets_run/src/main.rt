@@ -10,6 +10,7 @@ use rules::Was;
 use std::alloc::Global;
 use std::io;
 use text::{TEXT_BYTES, read_text, write_text};
+use text_sheet::{NotRead, Read};
 
 /// What the words of the result buffer are before a call.
 const RESULT_BEFORE: u32 = 0xaaaaaaaa;
