@@ -59,8 +59,7 @@ module _ (t : Table) where
   HeldRec (rec w a b c) = namesOne (kindIn w) b ≡ true → is_held t a ≡ true
 
   no_name : (k n a b c : ℕ) → k < 65_536 → namesOne k b ≡ false → HeldRec (rec (head k n) a b c)
-  no_name k n a b c h e q = absurd (let y : true ≡ false = sym q ∙ ap (λ (j : ℕ). namesOne j b) (kind-head k n h) ∙ e in let z : ◌≡◌ {A = ℕ} 0 1 = cc
-      in omega arith)
+  no_name k n a b c h e q = absurd (let y : true ≡ false = sym q ∙ ap (λ (j : ℕ). namesOne j b) (kind-head k n h) ∙ e in cc)
 
   held-open : (o : Open ℕ) → goodOpen (numbersOf t) (is_held t) 0 o ≡ true → HeldRec (rec (head (kindOpen o) 1) (word_of o) 0 0)
   unfolding goodOpen namesOne any

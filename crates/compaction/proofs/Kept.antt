@@ -63,7 +63,7 @@ module _ (p : ℕ → Bool) where
     where
       go : (b c : Bool) → q n ≡ c → (c || any q ns) ≡ false → (any q ns ≡ false → any q (keptFrom p (suc i) ns) ≡ false)
           → any q (consIf b n (keptFrom p (suc i) ns)) ≡ false
-      go b true e h k = absurd (let z : ◌≡◌ {A = ℕ} 0 1 = cc in omega arith)
+      go b true e h k = absurd (cc)
       go true false e h k = ap (◌|| any q (keptFrom p (suc i) ns)) e ∙ k h
       go false false e h k = k h
 
@@ -74,8 +74,7 @@ module _ (p : ℕ → Bool) where
     where
       go : (b c : Bool) → any (sameBytes n) ns ≡ c → distinct (keptFrom p (suc i) ns) ≡ true → distinct (consIf b n (keptFrom p (suc i) ns)) ≡ true
       go false c e k = k
-      go true true e k = absurd (let y : not true ≡ true = sym (ap not e) ∙ and_left (not (any (sameBytes n) ns)) _ h in let z : ◌≡◌ {A = ℕ} 0 1 = cc
-          in omega arith)
+      go true true e k = absurd (let y : not true ≡ true = sym (ap not e) ∙ and_left (not (any (sameBytes n) ns)) _ h in cc)
       go true false e k = ap₂ (λ (a b : Bool). not a && b) (kept_any (sameBytes n) (suc i) ns e) k
 
   -- how many of the j names from i on are kept

@@ -66,7 +66,7 @@ unfolding occurs
 take-occurs zero ws i e = clash' e
   where
     clash' : false ≡ true → occurs ws i ≡ true
-    clash' e = absurd (let z : ◌≡◌ {A = ℕ} 0 1 = cc in omega arith)
+    clash' e = absurd (cc)
 take-occurs (suc n) [] i e = rw (four-more n) at e
 take-occurs (suc n) (w ∷ []) i e = rw (four-more n) at e
 take-occurs (suc n) (w ∷ a ∷ []) i e = rw (four-more n) at e
@@ -78,9 +78,9 @@ drop-occurs : (n : ℕ) (ws : List ℕ) (i : ℕ) → occurs (drop (n * 4) ws) i
 unfolding occurs
 drop-occurs zero ws i e = e
 drop-occurs (suc n) [] i e = rw (four-more n) at e
-drop-occurs (suc n) (w ∷ []) i e = absurd (let y : false ≡ true = rw (four-more n) at e in let z : ◌≡◌ {A = ℕ} 0 1 = cc in omega arith)
-drop-occurs (suc n) (w ∷ a ∷ []) i e = absurd (let y : false ≡ true = rw (four-more n) at e in let z : ◌≡◌ {A = ℕ} 0 1 = cc in omega arith)
-drop-occurs (suc n) (w ∷ a ∷ b ∷ []) i e = absurd (let y : false ≡ true = rw (four-more n) at e in let z : ◌≡◌ {A = ℕ} 0 1 = cc in omega arith)
+drop-occurs (suc n) (w ∷ []) i e = absurd (let y : false ≡ true = rw (four-more n) at e in cc)
+drop-occurs (suc n) (w ∷ a ∷ []) i e = absurd (let y : false ≡ true = rw (four-more n) at e in cc)
+drop-occurs (suc n) (w ∷ a ∷ b ∷ []) i e = absurd (let y : false ≡ true = rw (four-more n) at e in cc)
 drop-occurs (suc n) (w ∷ a ∷ b ∷ c ∷ ws) i e = or_right (namesOne (kindIn w) b && eqb a i) (occurs ws i) (drop-occurs n ws i (rw (four-more n) at e))
 
 pub every_take : (P : ℕ → Type 0) (n : ℕ) (ws : List ℕ) → Every P ws → Every P (take n ws)

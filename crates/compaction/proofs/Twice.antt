@@ -91,10 +91,10 @@ module _ (p : ℕ → Bool) where
 
   occurs-again : (ws : List ℕ) (i : ℕ) → occurs ws i ≡ true → occurs (renumbered p ws) (newNumber p i) ≡ true
   unfolding occurs renumbered
-  occurs-again [] i e = absurd (let z : ◌≡◌ {A = ℕ} 0 1 = cc in omega arith)
-  occurs-again (w ∷ []) i e = absurd (let z : ◌≡◌ {A = ℕ} 0 1 = cc in omega arith)
-  occurs-again (w ∷ a ∷ []) i e = absurd (let z : ◌≡◌ {A = ℕ} 0 1 = cc in omega arith)
-  occurs-again (w ∷ a ∷ b ∷ []) i e = absurd (let z : ◌≡◌ {A = ℕ} 0 1 = cc in omega arith)
+  occurs-again [] i e = absurd (cc)
+  occurs-again (w ∷ []) i e = absurd (cc)
+  occurs-again (w ∷ a ∷ []) i e = absurd (cc)
+  occurs-again (w ∷ a ∷ b ∷ []) i e = absurd (cc)
   occurs-again (w ∷ a ∷ b ∷ c ∷ ws) i e = go (namesOne (kindIn w) b) (eqb a i) refl e (occurs-again ws i)
     where
       go : (n s : Bool) → eqb a i ≡ s → ((n && s) || occurs ws i) ≡ true → (occurs ws i ≡ true → occurs (renumbered p ws) (newNumber p i) ≡ true)
@@ -171,7 +171,7 @@ module _ (t : Table) where
 given-too : {A A' B : Type 0} (f : A → B) (f' : A' → B) (m : Got A) (m' : Got A') (k k' : Got (Unit {0})) → mapGot f m ≡ mapGot f' m'
     → (m >> k) ≡ got tt → k' ≡ got tt → (m' >> k') ≡ got tt
 given-too f f' (refused n) m' k k' s e h = clash e
-given-too f f' (got a) (refused n) k k' s e h = absurd (let z : ◌≡◌ {A = ℕ} 0 1 = cc in omega arith)
+given-too f f' (got a) (refused n) k k' s e h = absurd (cc)
 given-too f f' (got a) (got b) k k' s e h = h
 
 module _ {pool table : List ℕ} (g : Good pool table) (words : List ℕ) where

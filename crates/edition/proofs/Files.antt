@@ -49,9 +49,6 @@ pub record ReadSoFar (pool table : List ℕ) (files : List File) (i : ℕ) (xs :
   pub good : Good pool' table'
   pub many : length xs ≡ i
 
-pub none-read : (pool table : List ℕ) (files : List File) → Good pool table → ReadSoFar pool table files 0 [] pool table
-none-read pool table files g = record { pages = []; holds = tt; is = refl; good = g; many = refl }
-
 module _ (pool table : List ℕ) (files : List File) (i : ℕ) (xs : List Sheet) (p t : List ℕ) (h : ReadSoFar pool table files i xs p t) where
   one-step : (f : File) (fs : List File) (p' t' : List ℕ) (x : Sheet) (r : FileRead f p t p' t' x)
       → editionGiven p t (files_of (f ∷ fs)) ≡ onPage r.page (editionGiven p' t' (files_of fs))

@@ -16,7 +16,7 @@ use Rattle.edition.proofs.Pages.{lent-given}
 use Rattle.edition.specs.Sheets.{ReadTo}
 
 err-ok : {A E : Type 0} {e : E} {a : A} → ◌≡◌ {A = Result A E} (Err e) (Ok a) → ⊥
-err-ok e = let z : ◌≡◌ {A = ℕ} 0 1 = cc in omega (arith, z)
+err-ok e = cc
 
 front : (cs : List (Con ℕ)) (result : List ℕ) (n : ℕ) → n ≡ sum_of sizeCon cs
     → take (n * 4) (over (words (collect writeCon cs)) result) ≡ words (collect writeCon cs)
@@ -61,10 +61,10 @@ module _ {pool table : List ℕ} (good : Good pool table) (text result work : Li
             }
         go (Ok x) (refusedIn n l c) e f =
             let a : wasRead x.records x.constraints x.names ≡ notRead n l c = ap (λ (t : TextRead). t.answer) e in
-            let z : ◌≡◌ {A = ℕ} 0 1 = cc in absurd (omega (arith, z))
+            absurd (cc)
         go (Err x) (sheet cs s) e f =
             let a : notRead (number_of x.why) x.line x.column ≡ wasRead (sum_of sizeCon cs) (length cs) s.fresh = ap (λ (t : TextRead). t.answer) e in
-            let z : ◌≡◌ {A = ℕ} 0 1 = cc in absurd (omega (arith, z))
+            absurd (cc)
         go (Err x) (refusedIn n l c) e f =
             let a : notRead (number_of x.why) x.line x.column ≡ notRead n l c = ap (λ (t : TextRead). t.answer) e in
             record { why = cc; line = cc; column = cc; pools = ap (λ (t : TextRead). t.pool) e; tables = ap (λ (t : TextRead). t.table) e }
@@ -90,4 +90,4 @@ module _ {pool table : List ℕ} (good : Good pool table) (text result work : Li
             rw i (front-fits cs result x.records n)
         go (refusedIn n l c) e =
             let a : wasRead x.records x.constraints x.names ≡ notRead n l c = ap (λ (t : TextRead). t.answer) e in
-            let z : ◌≡◌ {A = ℕ} 0 1 = cc in absurd (omega (arith, z))
+            absurd (cc)

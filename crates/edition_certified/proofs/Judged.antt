@@ -69,13 +69,10 @@ kept-good p t v (refusedIn n l c) h = absurd h
 
 was-yes : (g : Got Bool) → saidOf g ≡ yes → g ≡ got true
 was-yes (got true) e = refl
-was-yes (got false) e = let z : ◌≡◌ {A = ℕ} 0 1 = cc in absurd (omega (arith, z))
-was-yes (refused n) e = let z : ◌≡◌ {A = ℕ} 0 1 = cc in absurd (omega (arith, z))
+was-yes (got false) e = absurd (cc)
+was-yes (refused n) e = absurd (cc)
 
 module _ (p t set : List ℕ) (v : Vec ℕ Global) where
-  pub lines-said : (m : Sheet) → Kept p t (Ok v) m → saidOf (verified p t set v.items) ≡ linesSaid set m
-  lines-said (sheet ds s) h = rw (h.is, h.pools, h.tables) refl
-  lines-said (refusedIn n l c) h = absurd h
 
   pub lines-true : Words32 v.items → (m : Sheet) → Kept p t (Ok v) m → (x : Verdict) → said x ≡ saidOf (verified p t set v.items) → LinesAreTrue set m x
   lines-true w (sheet ds s) h x e = λ i. record {
@@ -85,10 +82,6 @@ module _ (p t set : List ℕ) (v : Vec ℕ Global) where
     proves = rw (h.is, h.pools, h.tables) at (verified-true p t set v.items w (was-yes (verified p t set v.items) (sym e ∙ ap said i)));
   }
   lines-true w (refusedIn n l c) h x e = absurd h
-
-pub lines-stopped : (p t set : List ℕ) (e : NotRead) (m : Sheet) → Kept p t (Err e) m → said (verdict.LinesUnread e) ≡ linesSaid set m
-lines-stopped p t set e (sheet ds s) h = absurd h
-lines-stopped p t set e (refusedIn n l c) h = rw (h.why, h.line, h.column) refl
 
 -- ══ The text ══
 

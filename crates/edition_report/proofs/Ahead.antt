@@ -42,9 +42,6 @@ module _ (text : Bytes) (number at left : ℕ) (a : Ahead text number at left) {
       sym (ap (λ (ls : List Bytes). get_or ls left []) w.is ∙ next-line (line_at text at r) w.rest left h
       ∙ ap (λ (ls : List Bytes). get_or ls (left - 1) []) (w.last k) ∙ none-there (left - 1)) ∙ a.is
 
-  pub this-line : left ≡ 0 → line_at text at r ≡ lineIn number text
-  this-line e = sym (ap (λ (k : ℕ). get_or (lines_of (drop at text)) k []) e ∙ ap (λ (ls : List Bytes). get_or ls 0 []) w.is) ∙ a.is
-
 -- ══ The line of a constraint ══
 
 -- so many constraints left, from the line that begins at a place on: it is this many lines behind

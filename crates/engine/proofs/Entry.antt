@@ -10,7 +10,7 @@ use Rattle.rules.specs.Contents.{unmixed}
 use Rattle.rules.specs.Names.{table_of, lentTable}
 use Rattle.rules.specs.Trees.{Con, opensCon}
 use Rattle.rules.specs.declared.Refusal.TheVariants.{ShortBuffer}
-use Rattle.laws.proofs.Checks.{need-passed, passed}
+use Rattle.laws.proofs.Checks.{need-passed, passed, list-short}
 use Rattle.laws.specs.Lists.{and_left}
 use Rattle.laws.proofs.Lists.{clash}
 use Rattle.laws.specs.NameTable.{Good, good-laid}
@@ -84,10 +84,6 @@ module _ (pool table ws : List ℕ) where
       pub chain : Chain (GoodCon pool table 0 ws) (length ws / 4) set 0
       pub all : eliminatedSet (table_of pool table) ws ≡ (fitting (numbers pool table) set >>= λ ps. eliminated (numbers pool table) ps)
 
-    set-short : shortLists (ws ∷ []) ≡ got tt → length ws ≤ 8192
-    unfolding shortLists all
-    set-short s = leb-true (length ws) 8192 (and_left (leb (length ws) 8192) true (need-passed (leb (length ws) 8192 && true) 8 s))
-
     first-got : (m n : Got (Unit {0})) → (m >> n) ≡ got tt → m ≡ got tt
     first-got (got x) n e = refl
     first-got (refused i) n e = clash e
@@ -98,7 +94,7 @@ module _ (pool table ws : List ℕ) where
         let p = met (λ cs. apart (table_of pool table) (collect opensCon cs)) (lentTable pool table) (shortLists (ws ∷ []))
         (tableKept (table_of pool table)) (setGiven (table_of pool table) ws)
         (need (unmixed (numbers pool table) (opensIn ws 0 (length ws / 4))) 4) opened e in
-        let l = set-short p.short in
+        let l = list-short ws p.short in
         record {
           set = p.value;
           good = entry-good pool table ws

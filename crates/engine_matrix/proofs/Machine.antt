@@ -1,5 +1,5 @@
 -- What follows from the definitions of specs/Machine: what a machine has yet to do, and what a step does to that.
-use Rattle.std.specs.Prelude.{◌≡◌, ℕ, List, ◌++◌, ◌+◌, ◌<◌, ◌≤◌, length, take, get_or}
+use Rattle.std.specs.Prelude.{◌≡◌, ℕ, List, ◌++◌, ◌<◌, ◌≤◌, length, take, get_or}
 use Rattle.std.proofs.Math.Path.{ap}
 use Rattle.std.proofs.Common.{◌∙◌, append_assoc, arith, length-append, length-take-le, get_or-take}
 use Rattle.std.proofs.Math.ListN.{get_or-append}

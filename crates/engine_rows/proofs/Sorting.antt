@@ -151,8 +151,6 @@ module _ {N : Type 0} where
 -- ══ From the constraints ══
 
 module _ {N : Type 0} where
-  abbrev atomsOf : List (Product N) → List (Atom N)
-  atomsOf ps = collect (λ p. map atomOf p) ps
 
   vars-append : (as' bs : List (Atom N)) → varsOf (as' ++ bs) ≡ varsOf as' ++ varsOf bs
   vars-append [] bs = refl

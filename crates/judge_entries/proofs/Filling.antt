@@ -1,22 +1,20 @@
 -- What the turns of `fill` need: the slots below v fit and stand in the table.
 use Rattle.std.specs.Prelude.{Option, Some, None}
 use Rattle.std.specs.Option.{is_some}
-use mathlib.Core.Path.{◌≡◌, refl, sym, ap, subst, ◌∙◌}
-use mathlib.Core.Bool.{Bool, true, false}
+use mathlib.Core.Path.{◌≡◌, refl, sym, subst, ◌∙◌}
+use mathlib.Core.Bool.{true, false}
 use mathlib.Core.List.{List}
-use Prim.Native.Nat.{ℕ, ◌+◌, ◌/◌, ◌%◌, ◌≤◌, ◌<◌}
+use Prim.Native.Nat.{ℕ, ◌+◌, ◌/◌, ◌≤◌, ◌<◌}
 use native.Mathlib.Numerals.{add-one}
 use native.Mathlib.Omega.{arith}
 use borrow.Author.Count.{below_more}
-use borrow.Author.Tests.{eqb-true, eqb-false}
-use lib.Dec.{eqb}
 use lib.ListN.{length, get_or, set, length-set}
 use lib.Seq.{get_or-set_same, get_or-set_other}
 use Rattle.records.proofs.ByView.{in_reach}
 use Rattle.records.specs.Good.{Ends, GoodTy}
 use Rattle.judge_entries.specs.Entries.{bit, taken, slotWord}
 use Rattle.laws.proofs.Lists.{true≢false}
-use Rattle.judge_entries.specs.Tables.{Fits, WordFor, Filled}
+use Rattle.judge_entries.specs.Tables.{Fits}
 
 -- ══ A slot ══
 
@@ -33,11 +31,6 @@ bit-no None e = refl
 bit-no (Some p) e = absurd (true≢false (sym e))
 
 module _ (pool table types : List ℕ) (x : ℕ) where
-  fits-none : Fits pool table types x None
-  fits-none at q = absurd (let z : ◌≡◌ {A = ℕ} 0 1 = cc in omega arith)
-
-  pub word-none : WordFor pool table types x None (Some 0)
-  word-none = (fits-none, refl)
 
   -- whether a type starts at the place of a held name decides
   module _ (place : ℕ) where
@@ -45,13 +38,6 @@ module _ (pool table types : List ℕ) (x : ℕ) where
         → Fits pool table types x (Some place)
     word-there None l bad i = absurd (true≢false (sym i))
     word-there (Some e) l (t, g) i = λ at q. let k : place ≡ at = cc in (l, (t, (e, subst (λ (j : ℕ). GoodTy pool table 0 types 64 j t e) k g)))
-
-    pub none_there : (r : Option ℕ) → Ends (GoodTy pool table 0 types 64 place) r → is_some r ≡ false → Fits pool table types x (Some place) → ⊥
-    none_there None bad i fits = let (l, (t, (e, g))) = fits place refl in bad t e g
-    none_there (Some e) h i fits = absurd (true≢false i)
-
-    pub not-held : (x < get_or table 0 0 → ⊥) → Fits pool table types x (Some place) → ⊥
-    not-held f fits = f (fits place refl).0
 
     -- the place of a slot that fits is small
     pub fits-small : Fits pool table types x (Some place) → place < length types / 4
@@ -99,22 +85,3 @@ module _ (pool table types : List ℕ) (slots : List (Option ℕ)) (places₀ : 
               (λ x h. get_or-set_other places v x word 0 (λ q. omega arith) ∙ s.copied x h)
               (get_or-set_same places v word 0 i ∙ e);
         }
-
-  pub at-end : (places : List ℕ) (n v : ℕ) → SoFar places n v → 256 ≤ v → length types % 4 ≡ 0 → (repeated : Bool) → repeated ≡ false → (count : ℕ)
-      → Filled pool table types slots repeated count places (eqb n count)
-  at-end places n v s l whole repeated once count = go (eqb n count) refl
-    where
-      last : v ≡ 256
-      last = omega (arith, s.within)
-
-      go : (b : Bool) → eqb n count ≡ b → Filled pool table types slots repeated count places b
-      go true e = (
-        record {
-          whole = whole;
-          once = once;
-          fits = λ x h. s.fits x (omega (arith, last));
-          all = sym (ap (taken slots) last) ∙ sym s.counted ∙ eqb-true n count e;
-        },
-        λ x h. s.copied x (omega (arith, last)),
-      )
-      go false e = λ a. eqb-false n count e (s.counted ∙ ap (taken slots) last ∙ a.all)

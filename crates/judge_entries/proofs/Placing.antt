@@ -25,7 +25,7 @@ below_more m k l (e ∷ es) b = (omega (arith, b.0), below_more m k l es b.1)
 
 -- an entry's variable is among them
 place-below : (m : ℕ) (es : List Entry) (x at : ℕ) → Below m es → place_of es x ≡ some at → x < m
-place-below m [] x at b h = absurd (let z : ◌≡◌ {A = ℕ} 0 1 = cc in omega arith)
+place-below m [] x at b h = absurd (cc)
 place-below m (e ∷ es) x at b h = go (eqb e.variable x) refl (place-below m es x at b.1) h
   where
     go : (c : Bool) → eqb e.variable x ≡ c → (place_of es x ≡ some at → x < m) → place_of (e ∷ es) x ≡ some at → x < m
@@ -33,7 +33,7 @@ place-below m (e ∷ es) x at b h = go (eqb e.variable x) refl (place-below m es
     go false q f h = f (sym (rw q) ∙ h)
 
 slot-place : (o : Option ℕ) (at : ℕ) → slot_of o ≡ std.Some at → o ≡ some at
-slot-place none at h = absurd (let z : ◌≡◌ {A = ℕ} 0 1 = cc in omega arith)
+slot-place none at h = absurd (cc)
 slot-place (some p) at h = let q : p ≡ at = cc in ap some q
 
 module _ (pool table types : List ℕ) (w : Words32 types) (es : List Entry) where

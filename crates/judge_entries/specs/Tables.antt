@@ -1,7 +1,6 @@
 -- The table of places by variable, and what is promised of it.
 use Rattle.std.specs.Prelude.{◌≡◌, Bool, true, false, List, ℕ, ◌%◌, ◌≤◌, ◌<◌, length, get_or}
 use Rattle.std.specs.Prelude as std
-use Rattle.std.proofs.Math.Option.{Option}
 use Rattle.rules.specs.Trees.{Ty}
 use Rattle.records.specs.Found.{Words32}
 use Rattle.records.specs.Good.{GoodTy}

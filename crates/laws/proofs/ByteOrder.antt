@@ -8,7 +8,7 @@ use native.Mathlib.Omega.{compare-lt}
 use Rattle.std.proofs.Math.Dec.{compare_is_eq}
 use Rattle.rules.specs.Trees.{Open, var, quant, par, Atom, free, base, Names, orderOpen, orderAtom}
 use Rattle.laws.specs.Order.{turned, Lawful}
-use Rattle.laws.specs.ByteOrder.{keyed-lawful, Way, below, equal, above, way, compare-equal, compare-above, compare-below, turn, trans}
+use Rattle.laws.specs.ByteOrder.{keyed-lawful, Way, below, equal, above, way, compare-equal, compare-above, compare-below}
 
 -- all of one kind before all of another
 module _ {A B : Type 0} (f : A → A → Ordering) (g : B → B → Ordering) where

@@ -1,7 +1,10 @@
 -- A row of checks passes exactly when each passes.
-use Rattle.std.specs.Prelude.{◌≡◌, refl, Bool, true, false, ℕ}
+use Rattle.std.specs.Prelude.{◌≡◌, refl, Bool, true, false, List, [], ◌∷◌, ℕ, ◌≤◌, ◌&&◌, leb, length}
 use Rattle.std.proofs.Common.{sym}
-use Rattle.rules.specs.Base.{Got, got, refused, ◌>>=◌, ◌>>◌, need}
+use borrow.Author.Tests.{leb-true}
+use Rattle.rules.specs.Base.{Got, got, refused, ◌>>=◌, ◌>>◌, need, all}
+use Rattle.rules.specs.Calls.{shortLists}
+use Rattle.laws.specs.Lists.{and_left}
 use Rattle.laws.proofs.Lists.{clash}
 
 pub need-passed : (b : Bool) (n : ℕ) → need b n ≡ got tt → b ≡ true
@@ -17,18 +20,18 @@ module _ {A : Type 0} (b : Got A) (x : A) where
   next-passed (got u) h = h
   next-passed (refused n) h = cc
 
+-- a list that passed the check of 8
+pub list-short : (ws : List ℕ) → shortLists (ws ∷ []) ≡ got tt → length ws ≤ 8192
+unfolding shortLists all
+list-short ws h = leb-true (length ws) 8192 (and_left (leb (length ws) 8192) true (need-passed (leb (length ws) 8192 && true) 8 h))
+
 -- checks, and then a value of which only is asked that there is one
 pub passed : {A : Type 0} (a : Got (Unit {0})) (m : Got A) → (a >> m >> got (tt {0})) ≡ got tt → (x : A) × ((a ≡ got tt) × (m ≡ got x))
 passed (got u) (got x) e = (x, (refl, refl))
 passed (got u) (refused n) e = clash e
 passed (refused n) m e = clash e
 
--- a value of which only is asked that there is one, and there is none
-pub stops : {A C : Type 0} (m : Got A) (g : A → Got C) (n : ℕ) → (m >> got (tt {0})) ≡ refused n → (m >>= g) ≡ refused n
-stops (got a) g n e = clash (sym e)
-stops (refused j) g n e = cc
-
--- and where such a row is refused, so is whatever comes after it
+-- where such a row is refused, so is whatever comes after it
 pub stopped : {A B : Type 0} (a : Got (Unit {0})) (m : Got A) (f : A → Got B) (n : ℕ) → (a >> m >> got (tt {0})) ≡ refused n → (a >>= λ _. m >>= f) ≡ refused n
 stopped (got u) (got x) f n e = clash (sym e)
 stopped (got u) (refused k) f n e = cc

@@ -1,7 +1,7 @@
 -- What is among open names: two lists as one, numbers told apart by their values, and names of variables apart from those of parameters.
 use Rattle.std.specs.Prelude.{◌≡◌, Bool, ◌||◌, ℕ, eqb}
 use Rattle.std.proofs.Math.Path.{refl, subst}
-use Rattle.std.proofs.Common.{sym, ap, ap₂, ◌∙◌, arith, eq-eqb, ne_eqb}
+use Rattle.std.proofs.Common.{sym, ap, ap₂, ◌∙◌, eq-eqb, ne_eqb}
 use Rattle.std.proofs.Math.Bool.{true, false, not}
 use mathlib.Core.List.{List, [], ◌∷◌, ◌++◌, append_assoc, Memᴰ}
 use Rattle.std.proofs.Math.Decide.{ℕ_discrete}
@@ -55,10 +55,10 @@ contains-eqb names x (var y ∷ os) = ap₂ ◌||◌
     (told (open-dec (numbered names) (var x) (var y)) (eqb x y) (λ e. eq-eqb x y (cc)) (λ f. ne_eqb x y (λ e. f (ap var e))))
     (contains-eqb names x os)
 contains-eqb names x (quant i ∷ os) = ap (◌|| any (λ o. is_yes (open-dec (numbered names) (var x) o)) os)
-    (told (open-dec (numbered names) (var x) (quant i)) false (λ e. absurd (let z : ◌≡◌ {A = ℕ} 0 1 = cc in omega arith)) (λ f. refl))
+    (told (open-dec (numbered names) (var x) (quant i)) false (λ e. absurd (cc)) (λ f. refl))
     ∙ contains-eqb names x os
 contains-eqb names x (par y ∷ os) = ap (◌|| any (λ o. is_yes (open-dec (numbered names) (var x) o)) os)
-    (told (open-dec (numbered names) (var x) (par y)) false (λ e. absurd (let z : ◌≡◌ {A = ℕ} 0 1 = cc in omega arith)) (λ f. refl))
+    (told (open-dec (numbered names) (var x) (par y)) false (λ e. absurd (cc)) (λ f. refl))
     ∙ contains-eqb names x os
 
 -- ══ Names of variables and of parameters ══

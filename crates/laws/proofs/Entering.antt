@@ -136,7 +136,7 @@ distinct_more (m ∷ ns) n d h = go (sameBytes n m) refl (any (sameBytes m) ns) 
     go false e true f r = let z : false ≡ true = rw f at d in cc
     go false e false f r =
         rw (any-more (sameBytes m) ns n f
-        (same-no m n (λ q. let z : true ≡ false = sym (same-yes n m (sym q)) ∙ e in let y : ◌≡◌ {A = ℕ} 0 1 = cc in omega arith)))
+        (same-no m n (λ q. let z : true ≡ false = sym (same-yes n m (sym q)) ∙ e in cc)))
         (r (rw f at d) (rw e at h))
 
 -- ══ One name more ══

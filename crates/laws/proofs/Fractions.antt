@@ -114,13 +114,6 @@ lowest-terms n d l = go (parts l.num l.den l.positive)
 pub terms-lowest : (n : ℤ) (d : ℕ) → Terms n d → Lowest (frac n d)
 terms-lowest n d t = record { num = n; den = d; positive = t.positive; is = sym t.own }
 
--- 'two fractions in lowest terms that are equal crosswise are the same'
-pub unique : (n m : ℤ) (d e : ℕ) → Lowest (frac n d) → Lowest (frac m e) → n *ℤ pos e ≡ m *ℤ pos d → frac n d ≡ frac m e
-unique n m d e h k x =
-    let s = lowest-terms n d h in
-    let t = lowest-terms m e k in
-    sym s.own ∙ lowest-cross n m d e s.positive t.positive x ∙ t.own
-
 -- ══ Sums and products of fractions, reduced before or after ══
 
 module _ (n m : ℤ) (d e g h : ℕ) (n' m' : ℤ) (d' e' : ℕ) (gp : 0 < g) (hp : 0 < h)
@@ -187,7 +180,7 @@ module _ (a b : Exp) (p : Lowest a) (q : Lowest b) where
 
 pub inverted-lowest : (a b : Exp) → Lowest a → inverted a ≡ some b → Lowest b
 unfolding inverted
-inverted-lowest (frac (pos zero) d) b l e = let z : ◌≡◌ {A = ℕ} 0 1 = cc in absurd (omega arith)
+inverted-lowest (frac (pos zero) d) b l e = absurd (cc)
 inverted-lowest (frac (pos (suc n)) d) b l e =
     let t = lowest-terms (pos (suc n)) d l in
     let is : frac (pos d) (suc n) ≡ b = cc in
@@ -291,7 +284,7 @@ lowest-one k h =
 -- what has an inverse, and what hasn't
 pub mul-inverted : (a b : Exp) → Lowest a → inverted a ≡ some b → mul a b ≡ one
 unfolding inverted mul
-mul-inverted (frac (pos zero) d) b l e = let z : ◌≡◌ {A = ℕ} 0 1 = cc in absurd (omega arith)
+mul-inverted (frac (pos zero) d) b l e = absurd (cc)
 mul-inverted (frac (pos (suc n)) d) b l e =
     let h = (lowest-terms (pos (suc n)) d l).positive in
     let is : frac (pos d) (suc n) ≡ b = cc in
@@ -311,8 +304,8 @@ unfolding inverted
 inverted-none (frac (pos zero) d) l e =
     let t = lowest-terms (pos 0) d l in
     sym t.own ∙ lowest-nought d t.positive
-inverted-none (frac (pos (suc n)) d) l e = let z : ◌≡◌ {A = ℕ} 0 1 = cc in absurd (omega arith)
-inverted-none (frac (negsuc n) d) l e = let z : ◌≡◌ {A = ℕ} 0 1 = cc in absurd (omega arith)
+inverted-none (frac (pos (suc n)) d) l e = absurd (cc)
+inverted-none (frac (negsuc n) d) l e = absurd (cc)
 
 pub zero-is-nought : (a : Exp) → Lowest a → isZero a ≡ true → a ≡ nought
 zero-is-nought (frac (pos n) d) l e =

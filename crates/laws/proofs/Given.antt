@@ -63,7 +63,7 @@ read-few {A} r (suc n) (x ∷ xs) as' e = go (r (x ∷ xs)) refl (read-few r n)
     go (some v) i again = more v i again (read_all r n v.1) refl
 
 pub or-some : {A : Type 0} (n : ℕ) (o : Option A) (a : A) → orRefuse n o ≡ got a → o ≡ some a
-or-some n none a e = let z : ◌≡◌ {A = ℕ} 0 1 = cc in absurd (omega arith)
+or-some n none a e = absurd (cc)
 or-some n (some b) a e = let z : b ≡ a = cc in ap some z
 
 -- what was read is well formed, and isn't more than what was lent

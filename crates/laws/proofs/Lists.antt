@@ -1,7 +1,7 @@
 -- What follows from the definitions of specs/Lists: lists and tests: what is in a list, and what a test says of it.
 use Rattle.std.specs.Prelude.{◌≡◌, Bool, ◌&&◌, ◌||◌, ◌⊎◌, ℕ, suc, length}
 use Rattle.std.proofs.Math.Path.{refl, ap}
-use Rattle.std.proofs.Common.{◌∙◌, sym, inl, inr, arith}
+use Rattle.std.proofs.Common.{◌∙◌, sym, inl, inr}
 use Rattle.std.proofs.Math.Bool.{true, false, or-true}
 use Rattle.std.proofs.Math.Option.{Option, none, some}
 use mathlib.Core.List.Memᴰ
@@ -11,13 +11,13 @@ pub use Rattle.std.proofs.lemmas.Bool.{not-true, not-false}
 use Rattle.laws.specs.Lists.{in_head, All, all_nil, all_cons, Every}
 
 pub true≢false : true ≡ false → ⊥
-true≢false e = let z : ◌≡◌ {A = ℕ} 0 1 = cc in omega arith
+true≢false e = cc
 
 pub some≢none : {A : Type 0} {a : A} → some a ≡ none → ⊥
-some≢none e = let z : ◌≡◌ {A = ℕ} 0 1 = cc in omega arith
+some≢none e = cc
 
 pub got≢refused : {A : Type 0} {a : A} {n : ℕ} → got a ≡ refused n → ⊥
-got≢refused e = let z : ◌≡◌ {A = ℕ} 0 1 = cc in omega arith
+got≢refused e = cc
 
 pub clash : {A B : Type 0} {n : ℕ} {b : B} → refused n ≡ got b → A
 clash e = absurd (got≢refused (sym e))

@@ -236,7 +236,7 @@ pub record Found (i k : ℕ) (n : Bytes) (ms : List Bytes) : Type 0 where
 
 pub search-found : (i k : ℕ) (n : Bytes) (ms : List Bytes) → number_of i n ms ≡ some k → Found i k n ms
 unfolding number_of
-search-found i k n [] h = let z : ◌≡◌ {A = ℕ} 0 1 = cc in absurd (omega arith)
+search-found i k n [] h = absurd (cc)
 search-found i k n (m ∷ ms) h = go (sameBytes n m) refl (search-found (suc i) k n ms)
   where
     go : (b : Bool) → sameBytes n m ≡ b → (number_of (suc i) n ms ≡ some k → Found (suc i) k n ms) → Found i k n (m ∷ ms)
@@ -251,8 +251,7 @@ search-found i k n (m ∷ ms) h = go (sameBytes n m) refl (search-found (suc i) 
 pub search-none : (n : Bytes) (ms : List Bytes) → any (sameBytes n) ms ≡ false → (j : ℕ) → j < length ms → get_or ms j [] ≡ n → ⊥
 search-none n ms h j k e =
     let z : true ≡ false = sym (any_at (sameBytes n) ms j k (same-yes n (get_or ms j []) (sym e))) ∙ h in
-    let y : ◌≡◌ {A = ℕ} 0 1 = cc in
-    omega arith
+    cc
 
 -- ══ The checks of a call ══
 

@@ -4,7 +4,7 @@ use Rattle.std.specs.Prelude.{◌≡◌, Bool, true, false, ◌++◌, ℕ, ◌+�
 use Rattle.std.proofs.Math.Path.{refl, ap}
 use Rattle.std.proofs.Common.{sym, inl, inr, arith, le-leb}
 use Rattle.std.proofs.Math.Option.{Option, none, some, get_or}
-use mathlib.Core.List.{List, [], ◌∷◌, map, Memᴰ}
+use mathlib.Core.List.{List, [], ◌∷◌, Memᴰ}
 use Rattle.rules.specs.Base.{Got, got, allow, Limits, bounded, exact, refused, ◌>>=◌, is_yes, each, max_of}
 use Rattle.rules.specs.Contents.{fieldIn}
 use Rattle.rules.specs.Products.{single}
@@ -78,10 +78,6 @@ module _ {A : Type 0} (f : A → ℕ) where
   pub max_both : (xs ys : List A) → max_of f (xs ++ ys) ≡ max (max_of f xs) (max_of f ys)
   max_both [] ys = omega arith
   max_both (x ∷ xs) ys = omega (arith, max_both xs ys)
-
-  pub max_map : {B : Type 0} (g : B → A) (xs : List B) → max_of f (map g xs) ≡ max_of (λ b. f (g b)) xs
-  max_map g [] = refl
-  max_map g (x ∷ xs) = omega (arith, max_map g xs)
 
   pub each_below : (xs : List A) (d : ℕ) → max_of f xs ≤ d → Every (λ x. f x ≤ d) xs
   each_below [] d h = tt

@@ -17,7 +17,7 @@ use Rattle.rules.specs.declared.Refusal.TheVariants.{
   NotGrammar,
 }
 use Rattle.rules.specs.Numbers.{refusalIn}
-use Rattle.rules.specs.Refusals.{number_of, numberAnswer, told, toldBy, toldOption, toldOptionBy}
+use Rattle.rules.specs.Refusals.{number_of, numberAnswer, told, toldBy, toldOption}
 
 -- in the order of their numbers, from 1
 refusals : List Refusal
@@ -57,13 +57,6 @@ told-injective (Ok a) (Ok b) e = ap Ok (cc)
 told-injective (Ok a) (Err s) e = cc
 told-injective (Err r) (Ok b) e = cc
 told-injective (Err r) (Err s) e = ap Err (number-injective r s (cc))
-
-module _ {A B : Type 0} (f : A → B) (one : (a b : A) → f a ≡ f b → a ≡ b) where
-  pub toldOptionBy-injective : (p q : Option A) → toldOptionBy f p ≡ toldOptionBy f q → p ≡ q
-  toldOptionBy-injective None None e = refl
-  toldOptionBy-injective None (Some b) e = cc
-  toldOptionBy-injective (Some a) None e = cc
-  toldOptionBy-injective (Some a) (Some b) e = ap Some (one a b (cc))
 
 pub toldOption-injective : {A : Type 0} (p q : Option A) → toldOption p ≡ toldOption q → p ≡ q
 toldOption-injective None None e = refl

@@ -13,5 +13,9 @@ module _ {A : Type 0} {order : A → A → Ordering} (law : Lawful order) where
       go Ordering.eq e = e
       go Ordering.gt e = let z : Ordering.gt ≡ Ordering.lt = sym e ∙ law.turn a a ∙ ap turned e in cc
 
+  -- what stands before something isn't it
+  pub before_differs : (a b : A) → order a b ≡ Ordering.lt → ¬ (a ≡ b)
+  before_differs a b h e = let i : order a b ≡ Ordering.eq = rw (← e) (self a) in cc
+
   pub after : (a b : A) → order a b ≡ Ordering.gt → order b a ≡ Ordering.lt
   after a b h = law.turn a b ∙ ap turned h

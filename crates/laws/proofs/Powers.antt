@@ -2,17 +2,17 @@
 -- raising is a homomorphism.
 use Rattle.std.specs.Prelude.{◌≡◌, Bool, false}
 use Rattle.std.proofs.Math.Path.{refl, ap, ap₂, sym}
-use Rattle.std.proofs.Common.{◌∙◌, subst, arith}
+use Rattle.std.proofs.Common.{◌∙◌, subst}
 use Rattle.std.proofs.Math.Bool.{true}
 use mathlib.Core.List.{[], ◌∷◌}
-use Prim.Native.Nat.{ℕ, Ordering}
+use Prim.Native.Nat.{Ordering}
 use Rattle.rules.specs.Base.{got, exact}
 use Rattle.rules.specs.Exponents.{Exp, nought, one, isZero, neg, plus, mul, sum, times}
 use Rattle.rules.specs.Trees.{Atom, ◌↑◌, Product, Names, orderAtom}
 use Rattle.rules.specs.Products.{put, inverse}
 use Rattle.laws.specs.Lists.{Every}
 use Rattle.laws.specs.Order.{Lawful, Tells}
-use Rattle.laws.proofs.Order.{self, after}
+use Rattle.laws.proofs.Order.{before_differs, after}
 use Rattle.laws.specs.Fractions.{Lowest}
 use Rattle.laws.proofs.Fractions.{
   nought-lowest,
@@ -70,14 +70,11 @@ module _ {N : Type 0} (ν : Names N) (Held : Atom N → Type 0) where
       go (no f) l = l
 
 module _ {N : Type 0} (ν : Names N) {Held : Atom N → Type 0} (law : Lawful (orderAtom ν)) (tells : Tells Held (orderAtom ν)) where
-  apart : (a b : Atom N) → orderAtom ν a b ≡ Ordering.lt → ¬ (a ≡ b)
-  apart a b h e = let i : orderAtom ν a b ≡ Ordering.eq = rw (← e) (self law a) in let z : ◌≡◌ {A = ℕ} 0 1 = cc in omega arith
-
   -- an atom that stands before a product doesn't occur in it
   absent : (a : Atom N) (p : Product N) → Before ν a p → powerOf ν a p ≡ nought
   unfolding powerOf
   absent a [] h = refl
-  absent a (b ↑ e ∷ p) h = power-there ν a b e p (apart a b h.0) ∙ absent a p h.1
+  absent a (b ↑ e ∷ p) h = power-there ν a b e p (before_differs law a b h.0) ∙ absent a p h.1
 
   put-power : (c a : Atom N) (s : Exp) (r : Product N) → Before ν a r → Lowest s → powerOf ν c (put a s r) ≡ pick (atom-dec ν c a) s (powerOf ν c r)
   unfolding powerOf
@@ -197,7 +194,7 @@ module _ {N : Type 0} (ν : Names N) {Held : Atom N → Type 0} (law : Lawful (o
 
   -- a power that isn't 0 is not the exponent zero
   some-power : (e : Exp) → isZero e ≡ false → ¬ (e ≡ nought)
-  some-power e h i = let j : true ≡ false = sym (ap isZero i) ∙ h in let z : ◌≡◌ {A = ℕ} 0 1 = cc in omega arith
+  some-power e h i = let j : true ≡ false = sym (ap isZero i) ∙ h in cc
 
   determined : (p q : Product N) → Sorted ν p → Every (Sound Held) p → Sorted ν q → Every (Sound Held) q
       → ((c : Atom N) → powerOf ν c p ≡ powerOf ν c q) → p ≡ q

@@ -30,11 +30,10 @@ use Rattle.rules.specs.Exponents.{
   quotient,
   timesInverse,
 }
-use Rattle.rules.specs.Values.{sumCall, timesCall, negationCall, quotientCall}
 use Rattle.std.proofs.lemmas.Bool.{not-true}
 use Rattle.laws.proofs.Integers.{natAbs-neg}
 use Rattle.laws.proofs.Gcd.{gcd-comm}
-use Rattle.laws.proofs.Value.{Gives, gives, refuses, allowed}
+use Rattle.laws.proofs.Value.{Gives, refuses, allowed}
 use Rattle.laws.specs.Fractions.{Lowest}
 use Rattle.laws.proofs.Fractions.{lowest-terms, terms-lowest, coprime-terms, plus-in-lowest, mul-in-lowest, inverted-lowest}
 
@@ -114,7 +113,7 @@ negation-is (frac n d) h =
 
 pub inverted-good : (a b : Exp) → goodExp a ≡ true → inverted a ≡ some b → goodExp b ≡ true
 unfolding inverted
-inverted-good (frac (pos zero) d) b h e = let z : ◌≡◌ {A = ℕ} 0 1 = cc in absurd (omega arith)
+inverted-good (frac (pos zero) d) b h e = absurd (cc)
 inverted-good (frac (pos (suc n)) d) b h e =
     let g = good (pos (suc n)) d h in
     let is : frac (pos d) (suc n) ≡ b = cc in
@@ -161,19 +160,3 @@ module _ (a b : Exp) where
       → Gives (need (goodExp a && goodExp b) 1 >> m) (λ r. goodExp r ≡ true)
   two m f =
       checked (goodExp a && goodExp b) m (λ t. let p = (and-eq-true_iff (goodExp a) (goodExp b)).0 t in f p.0 p.1)
-
-  pub sum-call-good : Gives (sumCall a b) (λ r. goodExp r ≡ true)
-  unfolding sumCall
-  sum-call-good = two (sum bounded a b) (sum-good a b)
-
-  pub times-call-good : Gives (timesCall a b) (λ r. goodExp r ≡ true)
-  unfolding timesCall
-  times-call-good = two (times bounded a b) (times-good a b)
-
-  pub quotient-call-good : Gives (quotientCall a b) (λ r. goodExp r ≡ true)
-  unfolding quotientCall
-  quotient-call-good = two (quotient bounded a b) (quotient-good a b)
-
-pub negation-call-good : (a : Exp) → Gives (negationCall a) (λ r. goodExp r ≡ true)
-unfolding negationCall
-negation-call-good a = checked (goodExp a) (negation bounded a) (λ h. rw (negation-is a h) (gives (neg-good a h)))

@@ -237,7 +237,7 @@ module _ {A : Type 0} (w : A → List Rec) where
     same : (as' : List A) → o ≡ some as' → s ≡ collect w as'
 
   none_read : (s : List Rec) → Lists none s
-  none_read s = record { same = λ as' e. let z : ◌≡◌ {A = ℕ} 0 1 = cc in absurd (omega arith) }
+  none_read s = record { same = λ as' e. absurd (cc) }
 
   this-read : (as' : List A) (s : List Rec) → s ≡ collect w as' → Lists (some as') s
   this-read as' s e = record { same = λ bs f. let g : as' ≡ bs = cc in e ∙ ap (collect w) g }
@@ -271,7 +271,7 @@ pub record Taken (ws : List ℕ) (o : Option (List Rec)) : Type 0 where
   pub back : (rs : List Rec) → o ≡ some rs → (words rs ≡ ws) × Small rs
 
 none-taken : (ws : List ℕ) → Taken ws none
-none-taken ws = record { back = λ rs e. let z : ◌≡◌ {A = ℕ} 0 1 = cc in absurd (omega arith) }
+none-taken ws = record { back = λ rs e. absurd (cc) }
 
 this-taken : (ws : List ℕ) (rs : List Rec) → words rs ≡ ws → Small rs → Taken ws (some rs)
 this-taken ws rs e h = record { back = λ rs' f. let g : rs ≡ rs' = cc in (ap words (sym g) ∙ e, subst Small g h) }

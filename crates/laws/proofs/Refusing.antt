@@ -1,7 +1,7 @@
 -- Refusals of some kind alone: said of a step, and of steps after one another.
-use Rattle.std.specs.Prelude.{◌≡◌, refl, ℕ}
+use Rattle.std.specs.Prelude.{◌≡◌, refl, Bool, true, false, ℕ}
 use Rattle.std.proofs.Common.{◌∙◌, ap, subst}
-use Rattle.rules.specs.Base.{Got, got, refused, ◌>>=◌}
+use Rattle.rules.specs.Base.{Got, got, refused, ◌>>=◌, need}
 use Rattle.laws.proofs.Lists.{got≢refused, same-number}
 
 -- where it refuses, it is with a number of P
@@ -13,6 +13,10 @@ given = record { only = λ n e. absurd (got≢refused e) }
 
 pub refusing : {A : Type 0} {P : ℕ → Type 0} {n : ℕ} → P n → Refuses {A = A} P (refused n)
 refusing {P = P} {n = n} p = record { only = λ j e. subst P (same-number e) p }
+
+pub needs : {P : ℕ → Type 0} (b : Bool) (n : ℕ) → P n → Refuses P (need b n)
+needs true n p = given
+needs false n p = refusing p
 
 pub next : {A B : Type 0} {P : ℕ → Type 0} (m : Got A) (f : A → Got B) → Refuses P m → ((a : A) → Refuses P (f a)) → Refuses P (m >>= f)
 next (got a) f h k = k a

@@ -1,18 +1,18 @@
 -- Sorting gives the rising list of the names that occur, so it depends on nothing else.
 use Rattle.std.specs.Prelude.{◌≡◌, true, ◌⊎◌}
 use Rattle.std.proofs.Math.Path.{refl}
-use Rattle.std.proofs.Common.{sym, ap₂, subst, ◌∙◌}
+use Rattle.std.proofs.Common.{sym, ap₂, ◌∙◌}
 use mathlib.Core.List.Memᴰ
 use mathlib.Core.List.{List, [], ◌∷◌, Memᴰ}
 use Rattle.std.proofs.Math.Logic.{inl, inr, ⊎_elim}
-use Prim.Native.Nat.{ℕ, suc, ◌≤◌, Ordering}
+use Prim.Native.Nat.{suc, ◌≤◌, Ordering}
 use native.Mathlib.Omega.{arith}
 use Rattle.std.proofs.Math.ListN.{length}
 use Rattle.rules.specs.Trees.{Names}
 use Rattle.rules.specs.Contents.{sorted, sort}
 use Rattle.rules.specs.WellFormed.{rising}
 use Rattle.laws.specs.Order.{Lawful, Tells}
-use Rattle.laws.proofs.Order.{self, after}
+use Rattle.laws.proofs.Order.{before_differs, after}
 use Rattle.laws.specs.Lists.{Every, all-every}
 use Rattle.laws.proofs.Lists.{every-all, every-as}
 
@@ -133,11 +133,8 @@ module _ {N : Type 0} (ν : Names N) (law : Lawful ν.order) where
   sooner : (a b : N) (xs : List N) → ν.order a b ≡ Ordering.lt → Before ν b xs → Before ν a xs
   sooner a b xs h k = every-as (λ x. law.trans a b x h) xs k
 
-  never-self : (a : N) → ν.order a a ≡ Ordering.lt → ⊥
-  never-self a h = let z : Ordering.eq ≡ Ordering.lt = sym (self law a) ∙ h in absurd (let y : ◌≡◌ {A = ℕ} 0 1 = cc in omega arith)
-
   never_both : (a b : N) → ν.order a b ≡ Ordering.lt → ν.order b a ≡ Ordering.lt → ⊥
-  never_both a b h k = never-self a (law.trans a b a h k)
+  never_both a b h k = before_differs law a a (law.trans a b a h k) refl
 
   -- ══ Sorted names rise ══
 
@@ -169,8 +166,8 @@ module _ {N : Type 0} (ν : Names N) (law : Lawful ν.order) where
   one-rising (x ∷ xs) (y ∷ ys) h k f g =
       let e : x ≡ y = first in
       ap₂ ◌∷◌ e (one-rising xs ys h.1 k.1
-      (λ z i. ⊎_elim (λ q. absurd (never-self x (subst (λ (w : N). ν.order x w ≡ Ordering.lt) (q ∙ sym e) (in-every _ xs h.0 z i)))) (λ j. j) (f z (inr i)))
-      (λ z i. ⊎_elim (λ q. absurd (never-self y (subst (λ (w : N). ν.order y w ≡ Ordering.lt) (q ∙ e) (in-every _ ys k.0 z i)))) (λ j. j) (g z (inr i))))
+      (λ z i. ⊎_elim (λ q. absurd (before_differs law x z (in-every _ xs h.0 z i) (e ∙ sym q))) (λ j. j) (f z (inr i)))
+      (λ z i. ⊎_elim (λ q. absurd (before_differs law y z (in-every _ ys k.0 z i) (sym (q ∙ e)))) (λ j. j) (g z (inr i))))
     where
       first : x ≡ y
       first = ⊎_elim (λ q. q) (λ i. ⊎_elim (λ q. sym q) (λ j. absurd (never_both x y (in-every _ xs h.0 y j) (in-every _ ys k.0 x i)))

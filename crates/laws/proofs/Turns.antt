@@ -1,6 +1,6 @@
 -- What a round did: it bound a variable, put constraints in another's place, or took one away. And how a run ended.
 use Rattle.std.proofs.Math.Path.{◌≡◌, refl, ap}
-use Rattle.std.proofs.Common.{◌∙◌, sym, inl, inr, arith}
+use Rattle.std.proofs.Common.{◌∙◌, sym, inl, inr}
 use Rattle.std.proofs.Math.Option.{Option, none, some}
 use Rattle.std.specs.Prelude.{◌⊎◌}
 use mathlib.Core.List.Memᴰ
@@ -78,9 +78,9 @@ module _ {N : Type 0} (ν : Names N) (l : Limits) where
       (again : (w : Step N × List (Con N)) → firstStep ν l cs ≡ got (some w) → Found cs w.0 w.1) where
     taken-found : (s : Step N) → trySatisfy ν l c ≡ got s → taken s c cs (λ _. firstStep ν l cs) ≡ got (some v) → Found (c ∷ cs) v.0 v.1
     unfolding taken
-    taken-found (bind x t) i e = let q : (bind x t, cs) ≡ v = cc in rw (sym q) (step-apart (λ z. let y : ◌≡◌ {A = ℕ} 0 1 = cc in omega arith) c cs i)
-    taken-found (split new) i e = let q : (split new, cs) ≡ v = cc in rw (sym q) (step-apart (λ z. let y : ◌≡◌ {A = ℕ} 0 1 = cc in omega arith) c cs i)
-    taken-found done i e = let q : (done, cs) ≡ v = cc in rw (sym q) (step-apart (λ z. let y : ◌≡◌ {A = ℕ} 0 1 = cc in omega arith) c cs i)
+    taken-found (bind x t) i e = let q : (bind x t, cs) ≡ v = cc in rw (sym q) (step-apart (λ z. cc) c cs i)
+    taken-found (split new) i e = let q : (split new, cs) ≡ v = cc in rw (sym q) (step-apart (λ z. cc) c cs i)
+    taken-found done i e = let q : (done, cs) ≡ v = cc in rw (sym q) (step-apart (λ z. cc) c cs i)
     taken-found stuck i e = go (firstStep ν l cs) refl
       where
         go : (r : Got (Option (Step N × List (Con N)))) → firstStep ν l cs ≡ r → Found (c ∷ cs) v.0 v.1
@@ -162,13 +162,13 @@ module _ {N : Type 0} (ν : Names N) (l : Limits) (bs : List (Binding N)) (ns : 
       → Ended ν bs ns s
   unfolding finished
   finished-ended [] k s i e = record { left = i; binds = cc; bounds = cc }
-  finished-ended (c ∷ cs) k s i e = let z : ◌≡◌ {A = ℕ} 0 1 = cc in absurd (omega arith)
+  finished-ended (c ∷ cs) k s i e = absurd (cc)
 
   after-back : (P : State N → Type 0) → ((s : State N) → Ended ν bs ns s → P s) → ((s s' : State N) → Turn ν l s s' → P s' → P s)
       → (k : ℕ) (s : State N) (more : State N → Answer N) → ((s' : State N) → more s' ≡ accepted bs ns j → P s')
       → (r : Got (Option (State N))) → round ν l s ≡ r → after ν r k s more ≡ accepted bs ns j → P s
   unfolding after finish
-  after-back P end step k s more again (refused n) i e = let z : ◌≡◌ {A = ℕ} 0 1 = cc in absurd (omega arith)
+  after-back P end step k s more again (refused n) i e = absurd (cc)
   after-back P end step k s more again (got none) i e = end s (finished-ended (keep (λ c. is_none (boundOf c)) s.cons) k s refl e)
   after-back P end step k s more again (got (some s')) i e = step s s' (turn ν l s s' i) (again s' e)
 
@@ -176,5 +176,5 @@ module _ {N : Type 0} (ν : Names N) (l : Limits) (bs : List (Binding N)) (ns : 
   pub run-back : (P : State N → Type 0) → ((s : State N) → Ended ν bs ns s → P s) → ((s s' : State N) → Turn ν l s s' → P s' → P s)
       → (f k : ℕ) (s : State N) → run ν l f k s ≡ accepted bs ns j → P s
   unfolding run
-  run-back P end step zero k s e = let z : ◌≡◌ {A = ℕ} 0 1 = cc in absurd (omega arith)
+  run-back P end step zero k s e = absurd (cc)
   run-back P end step (suc f) k s e = after-back P end step k s (λ s'. run ν l f (suc k) s') (λ s' i. run-back P end step f (suc k) s' i) (round ν l s) refl e

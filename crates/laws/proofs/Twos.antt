@@ -1,32 +1,6 @@
 -- What follows from the definitions of specs/Twos: factors 2: what is left of a number without them, and what they do to a greatest common divisor.
 use Rattle.std.specs.Prelude.{◌≡◌, refl, ℕ, zero, suc, ◌+◌, ◌-◌, ◌*◌, ◌/◌, ◌%◌, ◌^◌, ◌≤◌, ◌<◌, min, max}
-use Rattle.std.proofs.Common.{
-  ap,
-  ap₂,
-  ◌∙◌,
-  sym,
-  subst,
-  add-mul,
-  mul-le-mul_left,
-  mul-le-mul_right,
-  one-mul,
-  le_trans,
-  lt_of_not-le,
-  not-le_of_lt,
-  lt_of_le_of_lt,
-  mul_assoc,
-  mul_comm,
-  mul_left_comm,
-  mul-one,
-  zero-mul,
-  pow-suc,
-  mod-eq_of_lt,
-  div-one,
-  arith,
-  pow-add,
-  pow_pos,
-  pow_mono,
-}
+use Rattle.std.proofs.Common.{ap, ap₂, ◌∙◌, sym, subst, add-mul, mul-le-mul_left, lt_of_le_of_lt, mul_assoc, mul_comm, mul_left_comm, mul-one, zero-mul, pow-suc, mod-eq_of_lt, div-one, arith, pow-add, pow_pos}
 use Rattle.std.specs.Int.{◌∣◌}
 use Rattle.std.proofs.Math.Nat.{
   min-eq_left,
@@ -79,13 +53,6 @@ trailing (suc k) n p l = go (n % 2) refl (λ (e : n % 2 ≡ 0). trailing k (n / 
     go : (r : ℕ) → n % 2 ≡ r → (n % 2 ≡ 0 → Shifted (n / 2) (count_trailing_zeros k (n / 2))) → Shifted n (under r (count_trailing_zeros k (n / 2)))
     go zero e ih = shifted_even n (count_trailing_zeros k (n / 2)) e (ih e)
     go (suc r) e ih = record { is = mul-one (n / 1) ∙ div-one n; odd = ap (λ (x : ℕ). x % 2) (div-one n) ∙ omega arith }
-
--- a number of k digits has fewer than k of them
-pub shifts-below : (k : ℕ) {n t : ℕ} → n < 2 ^ k → Shifted n t → t < k
-shifts-below k {n} {t} l s = lt_of_not-le (λ (h : k ≤ t). not-le_of_lt l (le_trans (pow_mono h) whole))
-  where
-    whole : 2 ^ t ≤ n
-    whole = let q : 0 < n / 2 ^ t = omega (arith, s.odd) in omega (arith, s.is, mul-le-mul_right (2 ^ t) q, one-mul (2 ^ t))
 
 -- ══ In a greatest common divisor ══
 

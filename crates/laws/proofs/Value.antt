@@ -1,6 +1,6 @@
 -- What a step gives: where there is a value, it is as stated.
 use Rattle.std.specs.Prelude.{◌≡◌, refl, Bool, true, false, ℕ}
-use Rattle.std.proofs.Common.{subst, arith}
+use Rattle.std.proofs.Common.{subst}
 use Rattle.rules.specs.Base.{Got, got, refused, ◌>>=◌, allow}
 
 pub record Gives {A : Type 0} (m : Got A) (P : A → Type 0) : Type 0 where
@@ -10,7 +10,7 @@ pub gives : {A : Type 0} {P : A → Type 0} {a : A} → P a → Gives (got a) P
 gives {A} {P} {a} p = record { holds = λ b e. let q : a ≡ b = cc in subst P q p }
 
 pub refuses : {A : Type 0} {P : A → Type 0} {n : ℕ} → Gives (refused n) P
-refuses = record { holds = λ b e. let z : ◌≡◌ {A = ℕ} 0 1 = cc in absurd (omega arith) }
+refuses = record { holds = λ b e. absurd (cc) }
 
 pub next : {A B : Type 0} {m : Got A} {f : A → Got B} {P : A → Type 0} {Q : B → Type 0} → Gives m P → ((a : A) → P a → Gives (f a) Q) → Gives (m >>= f) Q
 next {m} {f} {P} {Q} h s = go m refl

@@ -1,5 +1,5 @@
 -- What entering a new name does to a table: one name more, all others as they were, and the table stays well formed.
-use Rattle.std.specs.Prelude.{◌≡◌, ℕ, ◌-◌, ◌≤◌, take}
+use Rattle.std.specs.Prelude.{◌≡◌, ℕ, ◌≤◌, take}
 use mathlib.Core.List.{List}
 use Rattle.std.proofs.Math.ListN.{length}
 

@@ -1,5 +1,5 @@
 -- Reading what was written gives it back.
-use Rattle.std.specs.Prelude.{ℕ, ◌≤◌, ◌-◌, nat_abs}
+use Rattle.std.specs.Prelude.{ℕ, ◌≤◌, nat_abs}
 use mathlib.Core.List.{[], ◌∷◌}
 use Rattle.rules.specs.Exponents.{frac, top}
 use Rattle.rules.specs.Trees.{◌↑◌, Product, Ty, opened, basic, dim, fn, struct, list, Tys, nil, cons, Fields, noFields, field}

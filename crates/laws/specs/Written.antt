@@ -1,6 +1,6 @@
 -- What was read is what is written there: the records that were read are those of the tree.
 use Rattle.std.specs.Prelude.{◌≡◌, refl, Bool, true, false, List, [], ◌∷◌, ◌++◌, length, eqb}
-use Rattle.std.proofs.Common.{subst, arith, eqb→eq, eqb-true}
+use Rattle.std.proofs.Common.{subst, eqb→eq, eqb-true}
 use Rattle.std.proofs.Math.Option.{Option, none, some}
 use Prim.Native.Nat.{ℕ, ◌+◌, ◌<◌}
 use Rattle.rules.specs.Base.{all}
@@ -13,7 +13,7 @@ pub record Reads {A : Type 0} (o : Option (A × List Rec)) (P : A → List Rec �
   pub holds : (a : A) (rest : List Rec) → o ≡ some (a, rest) → P a rest
 
 pub nothing : {A : Type 0} {P : A → List Rec → Type 0} → Reads none P
-nothing = record { holds = λ a r e. let z : ◌≡◌ {A = ℕ} 0 1 = cc in absurd (omega arith) }
+nothing = record { holds = λ a r e. absurd (cc) }
 
 pub given : {A : Type 0} {P : A → List Rec → Type 0} {a : A} {s : List Rec} → P a s → Reads (some (a, s)) P
 given {A} {P} {a} {s} p = record { holds = λ b r e. let t : ◌≡◌ {A = A × List Rec} (a, s) (b, r) = cc in subst (λ (v : A × List Rec). P v.0 v.1) t p }

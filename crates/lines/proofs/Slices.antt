@@ -5,10 +5,6 @@ use Rattle.std.proofs.lemmas.List.Edits.{sets, sets-eq}
 use Rattle.std.proofs.Math.Seq.{length-sets, slice, length-slice}
 use Rattle.std.proofs.lemmas.List.{take-set-le}
 
-take-sets : (n : ℕ) (l : List ℕ) (i : ℕ) (vs : List ℕ) → n ≤ i → take n (sets l i vs) ≡ take n l
-take-sets n l i [] h = refl
-take-sets n l i (a ∷ vs) h = take-sets n (set l i a) (suc i) vs (omega arith) ∙ take-set-le n l i a h
-
 drop-sets : (n : ℕ) (l : List ℕ) (i : ℕ) (vs : List ℕ) → i + length vs ≤ n → drop n (sets l i vs) ≡ drop n l
 drop-sets n l i [] h = refl
 drop-sets n l i (a ∷ vs) h = drop-sets n (set l i a) (suc i) vs (omega arith) ∙ drop-set-lt n l i a (omega arith)
@@ -16,17 +12,6 @@ drop-sets n l i (a ∷ vs) h = drop-sets n (set l i a) (suc i) vs (omega arith) 
 -- a part is what comes first behind the place where it begins
 slice-part : (i k : ℕ) (l : List ℕ) → i ≤ length l → slice i (i + k) l ≡ take k (drop i l)
 slice-part i k l h = ap (drop i) (take-add i k l) ∙ drop_at (take i l) (take k (drop i l)) i (length-take-le i l h)
-
--- a part before the stores
-pub slice-before : (i j : ℕ) (l : List ℕ) (p : ℕ) (vs : List ℕ) → j ≤ p → slice i j (sets l p vs) ≡ slice i j l
-slice-before i j l p vs h = ap (drop i) (take-sets j l p vs h)
-
--- a part behind them
-pub slice-behind : (i j : ℕ) (l : List ℕ) (p : ℕ) (vs : List ℕ) → p + length vs ≤ i → i ≤ j → i ≤ length l → slice i j (sets l p vs) ≡ slice i j l
-slice-behind i j l p vs h k le =
-    let e : j ≡ i + (j - i) = omega arith in
-    let n : length (sets l p vs) ≡ length l = length-sets l p vs in
-    rw e (slice-part i (j - i) (sets l p vs) (omega arith) ∙ ap (take (j - i)) (drop-sets i l p vs h) ∙ sym (slice-part i (j - i) l le))
 
 -- and the stores themselves
 pub slice-there : (l : List ℕ) (p : ℕ) (vs : List ℕ) → p + length vs ≤ length l → slice p (p + length vs) (sets l p vs) ≡ vs

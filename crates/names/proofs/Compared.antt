@@ -4,10 +4,9 @@ use Rattle.std.specs.Prelude.{◌⊎◌}
 use Rattle.std.proofs.Common.{inl, inr}
 use mathlib.Core.Bool.{true, false}
 use mathlib.Core.List.{[], ◌∷◌}
-use Prim.Native.Nat.{Ordering, ℕ, compare}
+use Prim.Native.Nat.{Ordering, compare}
 use Rattle.std.specs.Ordering.{nat_cmp, ordering_then}
 use Rattle.std.specs.Cmp.Lexicographic.{slice_cmp}
-use native.Mathlib.Omega.{arith}
 use Rattle.rules.specs.Names.{Bytes, then, orderBytes, sameBytes}
 use Rattle.laws.proofs.Order.{self}
 use Rattle.laws.specs.ByteOrder.{bytes_same, bytes-lawful}
@@ -26,8 +25,8 @@ module _ (n m : Bytes) where
   unequal f = same-no n m (λ e. f (ap (orderBytes n) (sym e) ∙ self bytes-lawful n))
 
   pub missed : (o : std.Ordering) → toldOrder o ≡ orderBytes n m → (o ≡ Less) ⊎ (o ≡ Greater) → sameBytes n m ≡ false
-  missed Less e t = unequal (λ h. let z : ◌≡◌ {A = ℕ} 0 1 = cc in omega arith)
-  missed Greater e t = unequal (λ h. let z : ◌≡◌ {A = ℕ} 0 1 = cc in omega arith)
+  missed Less e t = unequal (λ h. cc)
+  missed Greater e t = unequal (λ h. cc)
   missed Equal e (inl h) = cc
   missed Equal e (inr h) = cc
 

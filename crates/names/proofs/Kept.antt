@@ -186,7 +186,7 @@ module _ (pool table : List ℕ) (name : Bytes) where
   without-room c u r = go (enter-case pool table name)
     where
       go : Case pool table name → enter pool table name ≡ unchanged pool table (refused 3)
-      go (stopped k z e) = let y : ◌≡◌ {A = ℕ} 0 1 = cc in absurd (omega arith)
+      go (stopped k z e) = absurd (cc)
       go (full g n m e) = e
       go (known k b e) = absurd (u k (asked_is b))
       go (new en e) =

@@ -1,6 +1,6 @@
 -- What follows from the definitions of specs/Entry: the calls on products: what is asked at entry, and the calls once that is given.
 use Rattle.std.specs.Prelude.{◌≡◌, refl, false, List, ℕ, length}
-use Rattle.std.proofs.Common.{◌∙◌, arith}
+use Rattle.std.proofs.Common.{◌∙◌}
 use Rattle.rules.specs.Base.{Got, got, refused, ◌>>=◌, ◌>>◌, need, bounded}
 use Rattle.rules.specs.Exponents.{Exp, goodExp}
 use Rattle.rules.specs.Names.{tableGiven, table_of, numbersOf}
@@ -29,11 +29,11 @@ module _ (pool table : List ℕ) (p : Product) where
     where
       go : (m : Got Tree) → productGiven pool table (given p) ≡ m → passed m ≡ got tt → Well pool table p
       go (got t) e k = (given-well pool table p long t e).well
-      go (refused n) e k = let z : ◌≡◌ {A = ℕ} 0 1 = cc in absurd (omega arith)
+      go (refused n) e k = absurd (cc)
 
   -- a call that is refused at entry
   stopped : (m : Got (Unit {0})) (n : Got Tree) (f : Tree → Got Tree) (k : ℕ) → (m >> passed n) ≡ refused k → (m >> (n >>= f)) ≡ refused k
-  stopped (got u) (got t) f k h = let z : ◌≡◌ {A = ℕ} 0 1 = cc in absurd (omega arith)
+  stopped (got u) (got t) f k h = absurd (cc)
   stopped (got u) (refused n) f k h = cc
   stopped (refused n) m f k h = cc
 

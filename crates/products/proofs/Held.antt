@@ -127,8 +127,8 @@ all_known (f ∷ l) t h = go (kind-of f.kind f.name) (factorsIn (map valueIn l))
     go : Kind f.kind ⊎ (atomIn f.kind f.name ≡ none) → (o : Option Tree) → factorsIn (map valueIn l) ≡ o
         → ((t : Tree) → factorsIn (map valueIn l) ≡ some t → Every (λ f. Kind f.kind) l) → Every (λ f. Kind f.kind) (f ∷ l)
     go (inl k) (some r) e rest = (k, rest r e)
-    go (inl k) none e rest = let z : none ≡ some t = rw (factor-back f k, e) at h in let w : ◌≡◌ {A = ℕ} 0 1 = cc in absurd (omega arith)
-    go (inr n) o e rest = let z : none ≡ some t = rw (factor-none f n) at h in let w : ◌≡◌ {A = ℕ} 0 1 = cc in absurd (omega arith)
+    go (inl k) none e rest = let z : none ≡ some t = rw (factor-back f k, e) at h in absurd (cc)
+    go (inr n) o e rest = let z : none ≡ some t = rw (factor-none f n) at h in absurd (cc)
 
 -- the product that a value is, if its kinds are known
 pub product-in : (p : Product) → p.len ≤ 64 → Every (λ f. Kind f.kind) (take p.len p.factors) → productIn (given p) ≡ some (productOf p)
@@ -142,7 +142,7 @@ module _ (p : Product) where
     where
       go : (b : Bool) → leb p.len 64 ≡ b → p.len ≤ 64
       go true e = leb-true p.len 64 e
-      go false e = let z : none ≡ some t = rw e at h in let w : ◌≡◌ {A = ℕ} 0 1 = cc in absurd (omega arith)
+      go false e = let z : none ≡ some t = rw e at h in absurd (cc)
 
   in-known : (t : Tree) → productIn (given p) ≡ some t → Every (λ f. Kind f.kind) (take p.len p.factors)
   unfolding productIn given
@@ -257,11 +257,11 @@ module _ (pool table : List ℕ) where
           test : (b : Bool) → goodProduct numbers (is_held (table_of pool table)) 4_294_967_296 (productOf p) ≡ b → p.len ≤ 64
               → Every (λ f. Kind f.kind) counted → (need b 1 >> got (productOf p)) ≡ got t → Taken t
           test true e few k j = record { well = good-well few k e; is = cc }
-          test false e few k j = let z : ◌≡◌ {A = ℕ} 0 1 = cc in absurd (omega arith)
+          test false e few k j = absurd (cc)
 
           go : (o : Option Tree) → productIn (given p) ≡ o
               → (orRefuse 1 o >>= λ r. need (goodProduct numbers (is_held (table_of pool table)) 4_294_967_296 r) 1 >> got r) ≡ got t → Taken t
-          go none e j = let z : ◌≡◌ {A = ℕ} 0 1 = cc in absurd (omega arith)
+          go none e j = absurd (cc)
           go (some r) e j =
               let few = in-few p r e in
               let k = in-known p r e in
@@ -273,7 +273,7 @@ module _ (pool table : List ℕ) where
         where
           go : (m : Got Tree) → productGiven pool table (given p) ≡ m → isGot m ≡ true → Well pool table p
           go (got t) e k = (given-well t e).well
-          go (refused n) e k = let z : ◌≡◌ {A = ℕ} 0 1 = cc in absurd (omega arith)
+          go (refused n) e k = absurd (cc)
 
       pub not_taken : (Well pool table p → ⊥) → isGot (productGiven pool table (given p)) ≡ false
       not_taken f = go (productGiven pool table (given p)) refl
@@ -288,7 +288,7 @@ module _ (pool table : List ℕ) where
   refused-one v h = go (productIn v) h
     where
       test : (r : Tree) (b : Bool) → isGot (need b 1 >> got r) ≡ false → (need b 1 >> got r) ≡ refused 1
-      test r true k = let z : ◌≡◌ {A = ℕ} 0 1 = cc in absurd (omega arith)
+      test r true k = absurd (cc)
       test r false k = refl
 
       go : (o : Option Tree) → isGot (orRefuse 1 o >>= λ r. need (goodProduct numbers (is_held (table_of pool table)) 4_294_967_296 r) 1 >> got r) ≡ false

@@ -1,14 +1,12 @@
 -- What follows from the definitions of specs/Kinds: the kinds of factors: which atoms they are, and the order of factors by kind and name.
 use Rattle.std.specs.Prelude.{◌≡◌, Bool, false, cond, ◌&&◌, ◌⊎◌, eqb}
 use Rattle.std.proofs.Math.Path.{refl}
-use Rattle.std.proofs.Common.{ap, ◌∙◌, sym, subst, inl, inr, arith}
+use Rattle.std.proofs.Common.{◌∙◌, sym, subst, inl, inr, arith}
 use Rattle.std.proofs.Math.Bool.{true, and-eq-true_iff}
 use Rattle.std.proofs.Math.Option.{Option, none, some}
-use Prim.Native.Nat.{Ordering}
 use Prim.Native.Nat.{ℕ, ◌≤◌, ◌<◌, compare}
 use Rattle.std.proofs.Math.Decide.{ℕ_discrete}
 use borrow.Author.Tests.{eqb-true, ne_eqb, lt-ltb}
-use Rattle.std.proofs.Math.Dec.{compare_is_eq}
 use Rattle.rules.specs.Base.{and'}
 use Rattle.rules.specs.Exponents.{Exp, goodStored}
 use Rattle.rules.specs.Names.{then}
@@ -48,18 +46,6 @@ between k h l = go (ℕ_discrete k 11) (ℕ_discrete k 12)
 pub no_kind : (k x : ℕ) → ¬ (k ≡ 11) → ¬ (k ≡ 12) → ¬ (k ≡ 13) → ¬ (k ≡ 15) → atomIn k x ≡ none
 unfolding atomIn
 no_kind k x a b c d = rw (ne_eqb k 11 a, ne_eqb k 12 b, ne_eqb k 13 c, ne_eqb k 15 d)
-
-rank-one : {k : ℕ} → Kind k → rank_of k ≡ 1 → k ≡ 15
-unfolding rank_of
-rank-one variable h = absurd (omega arith)
-rank-one parameter h = absurd (omega arith)
-rank-one dimension h = absurd (omega arith)
-rank-one quantified h = refl
-
--- only quantified variables stand where they do
-pub same_rank : (k j : ℕ) → Kind k → compare (rank_of k) (rank_of j) ≡ Ordering.eq → j ≡ 15 → k ≡ 15
-unfolding rank_of
-same_rank k j d h e = rank-one d (eqb-true (rank_of k) (rank_of j) (ap compare_is_eq h) ∙ ap rank_of e)
 
 module _ (x : ℕ) where
   pub kind-atom : {k : ℕ} → Kind k → atomIn k x ≡ some (atomBy k x)
@@ -123,13 +109,13 @@ module _ (ν : Names ℕ) (held : ℕ → Bool) where
       go : Kind f.kind ⊎ (atomIn f.kind f.name ≡ none) → (and' (atomIn f.kind f.name) (goodAtom ν held 4_294_967_296) ≡ true)
           × (goodStored (expOf f.exp) ≡ true) → Fine ν held f
       go (inl k) r = record { kind = k; atom = rw (kind-atom f.name k) at r.0; stored = r.1 }
-      go (inr n) r = let z : false ≡ true = rw n at r.0 in let w : ◌≡◌ {A = ℕ} 0 1 = cc in absurd (omega arith)
+      go (inr n) r = let z : false ≡ true = rw n at r.0 in absurd (cc)
 
   pub fine-test : (f : Factor) → Fine ν held f → fine ν held f ≡ true
   fine-test f g = fine-by f ∙ rw (kind-atom f.name g.kind, g.stored) ((and-eq-true_iff _ _).1 (g.atom, refl))
 
   pub not-fine : (f : Factor) → fine ν held f ≡ false → Fine ν held f → ⊥
-  not-fine f h g = let e = fine-test f g in let z : ◌≡◌ {A = ℕ} 0 1 = cc in omega arith
+  not-fine f h g = let e = fine-test f g in cc
 
   -- an atom that bears a name is good where its name is held
   pub named-held : (k x : ℕ) → 11 ≤ k → k ≤ 13 → and' (atomIn k x) (goodAtom ν held 4_294_967_296) ≡ held x
@@ -145,16 +131,6 @@ module _ (ν : Names ℕ) (held : ℕ → Bool) where
   pub named-index : (x : ℕ) → x < 4_294_967_296 → and' (atomIn 15 x) (goodAtom ν held 4_294_967_296) ≡ true
   unfolding atomIn goodOpen
   named-index x h = lt-ltb x 4_294_967_296 h
-
-  pub held_by : (f : Factor) → Fine ν held f → ¬ (f.kind ≡ 15) → held f.name ≡ true
-  unfolding atomIn goodOpen
-  held_by f g n = go g.kind g.atom n
-    where
-      go : {k : ℕ} → Kind k → goodAtom ν held 4_294_967_296 (atomBy k f.name) ≡ true → ¬ (k ≡ 15) → held f.name ≡ true
-      go variable h n = h
-      go parameter h n = h
-      go dimension h n = h
-      go quantified h n = absurd (n refl)
 
   -- the order of factors: by kind, then by index or by name
   pub order-by : (k j x y : ℕ) → Kind k → Kind j

@@ -1,6 +1,6 @@
 -- Well formed products, factor by factor, and the test of a product.
 use Rattle.std.proofs.Math.Path.{◌≡◌}
-use Rattle.std.specs.Prelude.{List, ℕ, suc, ◌-◌, ◌<◌, ◌≤◌}
+use Rattle.std.specs.Prelude.{List, ℕ, suc, ◌<◌, ◌≤◌}
 use Rattle.std.proofs.Math.Bool.{true}
 use Prim.Native.Nat.{Ordering}
 use Rattle.std.proofs.Math.ListN.{length}

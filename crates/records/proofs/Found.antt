@@ -35,7 +35,7 @@ use Rattle.rules.specs.Trees.{
   count,
   countFields,
 }
-use Rattle.rules.specs.Writing.{Rec, rec, kindIn, lengthIn, twos, signed}
+use Rattle.rules.specs.Writing.{Rec, rec, kindIn, twos, signed}
 use Rattle.rules.specs.Reading.{
   Reader,
   pass,
@@ -68,8 +68,8 @@ use Rattle.rules.specs.Reading.{
 use Rattle.laws.specs.Written.{Reads, nothing, given, picked}
 use Rattle.laws.proofs.Written.{then, unsigned}
 use Rattle.laws.specs.Written as laws
-use Rattle.records.specs.Views.{plain, shape_of, longOf, longAt, from}
-use Rattle.records.specs.Places.{◌&◌, recAt, long-some, first}
+use Rattle.records.specs.Views.{plain, shape_of, from}
+use Rattle.records.specs.Places.{◌&◌, first}
 use Rattle.records.specs.Holds.{
   Shows,
   Long,
@@ -84,9 +84,9 @@ use Rattle.records.specs.Holds.{
   BodyCon,
   BodyBinding,
 }
-use Rattle.records.proofs.Holds.{BodyFactor, body-factor, holds-long, Body, body-holds, body-con, body-binding}
+use Rattle.records.proofs.Holds.{BodyFactor, body-factor, Body, body-holds, body-con, body-binding}
 use Rattle.records.specs.ByView.{ends-in, factors-in}
-use Rattle.records.proofs.ByView.{in_reach, body-in, con-body-in, binding-body-in}
+use Rattle.records.proofs.ByView.{body-in, con-body-in, binding-body-in}
 use Rattle.records.specs.declared.View.TheVariants as view
 use Rattle.records.specs.Found.{Words32, here, long-found, by_next}
 
@@ -423,10 +423,3 @@ module _ (s : List ℕ) where
     pub binding-found : (at : ℕ) → Reads (readBinding (from s at)) (FoundBinding at)
     unfolding readBinding
     binding-found at = binding-first at (from s at) refl
-
--- a length that stands in a word of 32 bits is at most 65,535
-pub held-short : (s : List ℕ) → Words32 s → (t : Ty ℕ) (at : ℕ) → Holds s t at → size t ≤ 65_535
-unfolding longOf lengthIn
-held-short s w t at h =
-    let l : longAt s at ≡ longOf (recAt s at) = long-some s at (in_reach s t at h) in
-    omega (arith, l, holds-long s t at h, w.word (at * 4))

@@ -28,7 +28,7 @@ use Rattle.records.specs.Good.{Chain, Chained, There, goodTy, goodCon, goodBindi
 use Rattle.records.specs.Given.{records-whole, records-broken, read_more, read-end, Reader-of, N, list-yes}
 
 pub absurd-some : {A B : Type 0} {a : A} → none ≡ some a → B
-absurd-some e = absurd (let z : ◌≡◌ {A = ℕ} 0 1 = cc in omega arith)
+absurd-some e = absurd (cc)
 
 pub from_start : (s : List ℕ) → from s 0 ≡ recs s
 unfolding from
@@ -166,7 +166,7 @@ module _ {A : Type 0} (s : List ℕ) (r : Reader A) (good : A → Bool) (P : ℕ
     where
       whole : Either → Chain P (N s r good P law) as' 0
       whole (given bs c e) = let i : got bs ≡ got as' = sym e ∙ h in let j : bs ≡ as' = cc in subst (λ (x : List A). Chain P (N s r good P law) x 0) j c
-      whole (not e) = let i : refused 1 ≡ got as' = sym e ∙ h in let z : ◌≡◌ {A = ℕ} 0 1 = cc in absurd (omega arith)
+      whole (not e) = let i : refused 1 ≡ got as' = sym e ∙ h in absurd (cc)
 
       go : (m : Bool) → eqb (length s % 4) 0 ≡ m → Chain P (N s r good P law) as' 0
       go true q = whole (list-either (eqb-true (length s % 4) 0 q))
@@ -177,7 +177,7 @@ module _ {A : Type 0} (s : List ℕ) (r : Reader A) (good : A → Bool) (P : ℕ
   one-is a h = go (listGiven r good s) refl
     where
       no : {B : Type 0} {n : ℕ} → refused n ≡ got a → B
-      no e = let z : ◌≡◌ {A = ℕ} 0 1 = cc in absurd (omega arith)
+      no e = absurd (cc)
 
       some : (as' : List A) → listGiven r good s ≡ got as' → P 0 a (N s r good P law)
       some [] e = no {n = 1} (sym (rw e) ∙ h)

@@ -209,7 +209,7 @@ module _ (pool table ws : List ℕ) (w : Words32 ws) where
   scheme-is sc h = go (eqb (length ws % 4) 0) refl
     where
       no : {B : Type 0} → refused 1 ≡ got sc → B
-      no e = let z : ◌≡◌ {A = ℕ} 0 1 = cc in absurd (omega arith)
+      no e = absurd (cc)
 
       good : length ws % 4 ≡ 0 → (sd : Scheme ℕ) → schemeOf (recs ws) ≡ some sd → (b : Bool) → goodScheme (table_of pool table) sd ≡ b
           → GoodScheme pool table ws sc

@@ -22,11 +22,6 @@ pub copy_step : (v d d' : List ℕ) (i o t : ℕ) {R : List ℕ} → i < t → t
     → sets d o (slice i t v) ≡ R → sets d' (o + 1) (slice (i + 1) t v) ≡ R
 copy_step v d d' i o t lt le e h = rw (add-one o, add-one i, e) (sym (ap (sets d o) (slice-cons i t v 0 lt le)) ∙ h)
 
--- nothing is stored in the empty list
-pub sets-none : (i : ℕ) (vs : List ℕ) → sets [] i vs ≡ []
-sets-none i [] = refl
-sets-none i (a ∷ vs) = sets-none (suc i) vs
-
 -- one run after another is one run
 pub sets-append : (a b d : List ℕ) (i : ℕ) → sets d i (a ++ b) ≡ sets (sets d i a) (i + length a) b
 sets-append [] b d i = rw (add-zero i)

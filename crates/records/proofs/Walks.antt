@@ -76,7 +76,7 @@ use Rattle.records.specs.declared.View.TheVariants as view
 -- ══ Tests ══
 
 pub false-true : {A : Type 0} → false ≡ true → A
-false-true e = absurd (let z : ◌≡◌ {A = ℕ} 0 1 = cc in omega arith)
+false-true e = absurd (cc)
 
 -- ══ Lengths ══
 

@@ -6,7 +6,6 @@ use mathlib.Core.Path.{◌≡◌, refl, sym, ap, subst, ◌∙◌}
 use mathlib.Core.Bool.{Bool, true, false}
 use mathlib.Core.List.{List}
 use Prim.Native.Nat.{ℕ, ◌+◌, ◌/◌}
-use native.Mathlib.Omega.{arith}
 use lib.Dec.{eqb}
 use lib.ListN.{length}
 use Rattle.rules.specs.Trees as tree
@@ -55,8 +54,7 @@ module _ (pool table s : List ℕ) where
   unlike : {A : Type 0} (n : ℕ) → viewAt s 0 ≡ view.Concrete → viewAt s 0 ≡ view.Scheme n → A
   unlike n v w =
       let i : view.Concrete ≡ view.Scheme n = sym v ∙ w in
-      let z : ◌≡◌ {A = ℕ} 0 1 = cc in
-      absurd (omega arith)
+      absurd (cc)
 
   pub scheme-other : (viewAt s 0 ≡ view.Concrete → ⊥) → ((n : ℕ) → viewAt s 0 ≡ view.Scheme n → ⊥) → Scheme' false
   scheme-other f g (concrete t) h = f h.0

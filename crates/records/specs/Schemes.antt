@@ -33,8 +33,7 @@ module _ (s : List ℕ) where
   bound-read (tree.par x) at h =
       let f = first s at (rec (head 25 1) x 0 0) (from s (at + 1)) (seen s at h.0 h.1 tt) in
       let e : view.Bound (viewOpen (tree.par x)) ≡ view.Bound (viewOpen (tree.var x)) = sym h.0 ∙ f.view ∙ rec-view (view.Bound (viewOpen (tree.var x))) 1 tt in
-      let z : ◌≡◌ {A = ℕ} 0 1 = cc in
-      absurd (omega arith)
+      absurd (cc)
 
   bound-shape : (at k a b c : ℕ) (rs : List Rec) → from s at ≡ rec k a b c ∷ rs
       → Reads (boundKinds (kindIn k) a b c rs) (λ o rest. Shows s at (view.Bound (viewOpen o)) × (rest ≡ from s (at + 1)))

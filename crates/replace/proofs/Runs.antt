@@ -24,8 +24,7 @@ use Rattle.replace.specs.Runs.{Found, LookedUp}
 
 pub not_found : (v : List ℕ) (o : Option (Ty ℕ)) {r : Found} → LookedUp v o r → r ≡ None → o ≡ none
 not_found v none h e = refl
-not_found v (some t) h e = absurd (let q : ◌≡◌ {A = Found} (Some (h.place, h.place + size t)) None = sym h.is ∙ e in let z : ◌≡◌ {A = ℕ} 0 1 = cc
-    in omega arith)
+not_found v (some t) h e = absurd (let q : ◌≡◌ {A = Found} (Some (h.place, h.place + size t)) None = sym h.is ∙ e in cc)
 
 module _ (v : List ℕ) where
   -- the first binding of a run that isn't empty
@@ -76,7 +75,7 @@ module _ (v : List ℕ) where
 -- what is found is shorter than the run
 pub found-short : (ν : Names ℕ) (bs : List (Binding ℕ)) (x : ℕ) (t : Ty ℕ) → find ν bs x ≡ some t → suc (size t) ≤ sum_of sizeBinding bs
 unfolding find sizeBinding
-found-short ν [] x t e = absurd (let z : ◌≡◌ {A = ℕ} 0 1 = cc in omega arith)
+found-short ν [] x t e = absurd (cc)
 found-short ν (y ≔ u ∷ bs) x t e = go (is_yes (ν.same x y)) refl (found-short ν bs x t)
   where
     go : (b : Bool) → is_yes (ν.same x y) ≡ b → (find ν bs x ≡ some t → suc (size t) ≤ sum_of sizeBinding bs) → suc (size t) ≤ sum_of sizeBinding (y ≔ u ∷ bs)
@@ -91,14 +90,14 @@ found-short ν (y ≔ u ∷ bs) x t e = go (is_yes (ν.same x y)) refl (found-sh
 pub looked-short : (ν : Names ℕ) (bs : List (Binding ℕ)) (o : Open ℕ) (t : Ty ℕ) → bindings ν bs o ≡ some t → suc (size t) ≤ sum_of sizeBinding bs
 unfolding bindings
 looked-short ν bs (var x) t e = found-short ν bs x t e
-looked-short ν bs (quant i) t e = absurd (let z : ◌≡◌ {A = ℕ} 0 1 = cc in omega arith)
-looked-short ν bs (par x) t e = absurd (let z : ◌≡◌ {A = ℕ} 0 1 = cc in omega arith)
+looked-short ν bs (quant i) t e = absurd (cc)
+looked-short ν bs (par x) t e = absurd (cc)
 
 -- what is found among well formed bindings is well formed
 module _ (ν : Names ℕ) (known : ℕ → Bool) (q : ℕ) where
   pub found-good : (bs : List (Binding ℕ)) (x : ℕ) (t : Ty ℕ) → all (goodBinding ν known q) bs ≡ true → find ν bs x ≡ some t → goodTy ν known q t ≡ true
   unfolding find all goodBinding
-  found-good [] x t g e = absurd (let z : ◌≡◌ {A = ℕ} 0 1 = cc in omega arith)
+  found-good [] x t g e = absurd (cc)
   found-good (y ≔ u ∷ bs) x t g e = go (is_yes (ν.same x y)) refl (found-good bs x t r.1)
     where
       r : (goodBinding ν known q (y ≔ u) ≡ true) × (all (goodBinding ν known q) bs ≡ true)
@@ -115,5 +114,5 @@ module _ (ν : Names ℕ) (known : ℕ → Bool) (q : ℕ) where
       → goodTy ν known q t ≡ true
   unfolding bindings
   looked-good bs (var x) t g e = found-good bs x t g e
-  looked-good bs (quant i) t g e = absurd (let z : ◌≡◌ {A = ℕ} 0 1 = cc in omega arith)
-  looked-good bs (par x) t g e = absurd (let z : ◌≡◌ {A = ℕ} 0 1 = cc in omega arith)
+  looked-good bs (quant i) t g e = absurd (cc)
+  looked-good bs (par x) t g e = absurd (cc)

@@ -36,7 +36,7 @@ pub record FoundAt (v : List ℕ) (o : Option (Ty ℕ)) (i j : ℕ) : Type 0 whe
   pub ends : j ≡ i + size type
 
 pub found : {v : List ℕ} (o : Option (Ty ℕ)) {r : Found} {i j : ℕ} → LookedUp v o r → r ≡ Some (i, j) → FoundAt v o i j
-found none h e = absurd (let z : ◌≡◌ {A = ℕ} 0 1 = cc in omega arith)
+found none h e = absurd (cc)
 found {v} (some t) {r} {i} {j} h e =
     let q : ◌≡◌ {A = Found} (Some (h.place, h.place + size t)) (Some (i, j)) = sym h.is ∙ e in
     let o : ◌≡◌ {A = ℕ × ℕ} (h.place, h.place + size t) (i, j) = cc in

@@ -131,7 +131,7 @@ module _ (v : List ℕ) where
 module _ (ν : Names ℕ) (known : ℕ → Bool) (q : ℕ) (same : (x y : ℕ) → is_yes (ν.same x y) ≡ true → x ≡ y) where
   find-held : (bs : List (Binding ℕ)) (x : ℕ) (t : Ty ℕ) → all (goodBinding ν known q) bs ≡ true → find ν bs x ≡ some t → known x ≡ true
   unfolding find all goodBinding
-  find-held [] x t g e = absurd (let z : ◌≡◌ {A = ℕ} 0 1 = cc in omega arith)
+  find-held [] x t g e = absurd (cc)
   find-held (y ≔ u ∷ bs) x t g e = go (is_yes (ν.same x y)) refl (find-held bs x t r.1)
     where
       r : (goodBinding ν known q (y ≔ u) ≡ true) × (all (goodBinding ν known q) bs ≡ true)
@@ -170,7 +170,7 @@ module _ (pool table places v : List ℕ) (b e : ℕ) (bs : List (Binding ℕ)) 
     (says : (x : ℕ) → x < 256 → SaysAt v (get_or places x 0) (find (names pool table) bs x)) where
   named : (x y : ℕ) (d : Dec (x ≡ y)) → is_yes d ≡ true → x ≡ y
   named x y (yes p) q = p
-  named x y (no p) q = absurd (let z : ◌≡◌ {A = ℕ} 0 1 = cc in omega arith)
+  named x y (no p) q = absurd (cc)
 
   below : (x : ℕ) (t : Ty ℕ) → find (names pool table) bs x ≡ some t → x < 256
   unfolding numbered table_of

@@ -95,7 +95,7 @@ pub record Over1 {A : Type 0} (m : Got A) : Type 0 where
   pub over : (n : ℕ) → m ≡ refused n → 1 < n
 
 gives : {A : Type 0} {a : A} → Over1 (got a)
-gives = record { over = λ n e. let z : ◌≡◌ {A = ℕ} 0 1 = cc in absurd (omega arith) }
+gives = record { over = λ n e. absurd (cc) }
 
 refuses : {A : Type 0} {n : ℕ} → 1 < n → Over1 {A = A} (refused n)
 refuses {n} h = record { over = λ k e. let q : n ≡ k = cc in omega arith }
@@ -318,9 +318,6 @@ module _ {N : Type 0} (ν : Names N) (l : Limits) where
   unfolding round
   round-over s = next (first-over s.cons) (λ f. performed-over s.binds f)
 
-  pub round-not-1 : (s : State N) → round ν l s ≡ refused 1 → ⊥
-  round-not-1 s e = omega (arith, (round-over s).over 1 e)
-
 -- ══ Solving ══
 
 -- an answer that isn't refusal 1
@@ -330,8 +327,8 @@ pub record Not1 {N : Type 0} (a : Answer N) : Type 0 where
 module _ {N : Type 0} (ν : Names N) where
   finished-not-1 : (cs : List (Con N)) (k : ℕ) (s : State N) → Not1 (finished ν cs k s)
   unfolding finished
-  finished-not-1 [] k s = record { never = λ j e. let z : ◌≡◌ {A = ℕ} 0 1 = cc in omega arith }
-  finished-not-1 (c ∷ cs) k s = record { never = λ j e. let z : ◌≡◌ {A = ℕ} 0 1 = cc in omega arith }
+  finished-not-1 [] k s = record { never = λ j e. cc }
+  finished-not-1 (c ∷ cs) k s = record { never = λ j e. cc }
 
   finish-not-1 : (k : ℕ) (s : State N) → Not1 (finish ν k s)
   unfolding finish
@@ -347,7 +344,7 @@ module _ {N : Type 0} (ν : Names N) where
 module _ {N : Type 0} (ν : Names N) (l : Limits) where
   pub run-not-1 : (f k : ℕ) (s : State N) → Not1 (run ν l f k s)
   unfolding run
-  run-not-1 zero k s = record { never = λ j e. let z : ◌≡◌ {A = ℕ} 0 1 = cc in omega arith }
+  run-not-1 zero k s = record { never = λ j e. cc }
   run-not-1 (suc f) k s = after-not-1 ν (round ν l s) k s (λ s'. run ν l f (suc k) s') (round-over ν l s) (λ s'. run-not-1 f (suc k) s')
 
   -- whatever the constraints are
@@ -373,8 +370,8 @@ record Fair (m : Got (Answer ℕ)) : Type 0 where
 
 answer-fair : (a : Answer ℕ) → Not1 a → Fair (got a)
 unfolding solvedOf
-answer-fair (accepted bs ns k) h = record { never = λ j e. let z : ◌≡◌ {A = ℕ} 0 1 = cc in omega arith }
-answer-fair (remaining cs k) h = record { never = λ j e. let z : ◌≡◌ {A = ℕ} 0 1 = cc in omega arith }
+answer-fair (accepted bs ns k) h = record { never = λ j e. cc }
+answer-fair (remaining cs k) h = record { never = λ j e. cc }
 answer-fair (stopped n k) h = record { never = λ j e. let z : n ≡ 1 = cc in h.never k (ap (λ (m : ℕ). stopped m k) z) }
 
 -- a check with another number in front

@@ -8,7 +8,7 @@ use Rattle.rules.specs.Calls.{Solved, solved, unsolved, refusedAfter, Solution, 
 use Rattle.rules.specs.Numbers.{solution, number}
 use Rattle.rules.specs.Confirming.{ruled, confirmed, confirmedSet, confirmCall}
 use Rattle.rules.specs.Rules.{rules}
-use Rattle.rules.specs.Examples.{pool, table, result, work, x, y, L, P, Example, examples, same_words}
+use Rattle.rules.specs.Examples.{pool, table, result, work, x, y, L, Example, examples, same_words}
 
 abbrev confirms : List Rec → Solution
 confirms s = confirmCall pool table (sizedWords s) result work

@@ -8,7 +8,7 @@ use Rattle.rules.specs.Calls.{shortLists, shortNumbers}
 use Rattle.rules.specs.Refusals.{number_of}
 use Rattle.rules.specs.Writing.{Rec}
 use Rattle.rules.specs.declared.Refusal.{Refusal}
-use Rattle.laws.proofs.Checks.{need-passed, first-passed, next-passed}
+use Rattle.laws.proofs.Checks.{need-passed, first-passed, next-passed, list-short}
 use Rattle.laws.specs.Lists.{and_left}
 use Rattle.records_buffers.proofs.Handed.{made-refused}
 use Rattle.records_buffers.specs.Told.{Made}
@@ -57,8 +57,7 @@ module _ (ws bounds numbers : List ℕ) where
     words-alone = first-passed (shortLists (bounds ∷ [])) tt (shortLists (ws ∷ [])) both
 
     pub words-short : length ws ≤ 8192
-    unfolding shortLists all
-    words-short = leb-true (length ws) 8192 (and_left (leb (length ws) 8192) true (need-passed (leb (length ws) 8192 && true) 8 words-alone))
+    words-short = list-short ws words-alone
 
     numbers-few : shortNumbers numbers ≡ got tt
     numbers-few = next-passed (shortNumbers numbers) tt (shortLists (ws ∷ []) >> shortLists (bounds ∷ [])) (sym (e ∙ each-short))

@@ -55,11 +55,11 @@ module _ (f : Rename) (o : tree.Open ℕ) (all : Bool) where
     where
       open-only : (x : Shape) (u : tree.Open ℕ) → whole x ≡ opened u → ((v : Open) → x ≡ shape.Open v → ⊥) → ⊥
       open-only (shape.Open v) u e h = h v refl
-      open-only (shape.Basic b) u e h = let z : ◌≡◌ {A = ℕ} 0 1 = cc in omega arith
-      open-only (shape.Dimension p) u e h = let z : ◌≡◌ {A = ℕ} 0 1 = cc in omega arith
-      open-only (shape.Function ps r) u e h = let z : ◌≡◌ {A = ℕ} 0 1 = cc in omega arith
-      open-only (shape.Struct n ts fs) u e h = let z : ◌≡◌ {A = ℕ} 0 1 = cc in omega arith
-      open-only (shape.List t) u e h = let z : ◌≡◌ {A = ℕ} 0 1 = cc in omega arith
+      open-only (shape.Basic b) u e h = cc
+      open-only (shape.Dimension p) u e h = cc
+      open-only (shape.Function ps r) u e h = cc
+      open-only (shape.Struct n ts fs) u e h = cc
+      open-only (shape.List t) u e h = cc
 
       go : (s : Option (tree.Open ℕ)) → f o ≡ s → ⊥
       go none k = some≢none (sym a ∙ ap (λ (s : Option (tree.Open ℕ)). and_then s (λ u. some (opened u))) k)

@@ -92,7 +92,7 @@ module _ (pool table ws : List ℕ) (w : Words32 ws) (b : Bool) where
           go : (sc : Scheme ℕ) → GoodScheme pool table ws sc → schemeGiven (table_of pool table) ws ≡ got sc
               → (t : ATree ws 1) × (schemeGiven (table_of pool table) ws ≡ got (concrete t.0))
           go (concrete t) g k = ((t, g.1.held), k)
-          go (scheme n t bs) g k = absurd (let z : view.Scheme n ≡ view.Concrete = sym g.0 ∙ e in let y : ◌≡◌ {A = ℕ} 0 1 = cc in omega arith)
+          go (scheme n t bs) g k = absurd (let z : view.Scheme n ≡ view.Concrete = sym g.0 ∙ e in cc)
 
       pub concrete-is : viewAt ws 0 ≡ view.Concrete → (t : Ty ℕ) → Holds ws t 1 → schemeGiven (table_of pool table) ws ≡ got (concrete t)
       concrete-is e t l = let x = concrete-there e in x.1 ∙ ap (λ (k : ATree ws 1). got (concrete k.0)) (one-tree ws 1 x.0 (t, l))
@@ -107,7 +107,7 @@ module _ (pool table ws : List ℕ) (w : Words32 ws) (b : Bool) where
       scheme-there n e = go its.0 its.1 given
         where
           go : (sc : Scheme ℕ) → GoodScheme pool table ws sc → schemeGiven (table_of pool table) ws ≡ got sc → Quantified n
-          go (concrete t) g k = absurd (let z : view.Concrete ≡ view.Scheme n = sym g.0 ∙ e in let y : ◌≡◌ {A = ℕ} 0 1 = cc in omega arith)
+          go (concrete t) g k = absurd (let z : view.Concrete ≡ view.Scheme n = sym g.0 ∙ e in cc)
           go (scheme m t bs) (v, (end, (g, c)), l) k =
               let z : view.Scheme m ≡ view.Scheme n = sym v ∙ e in
               let same : m ≡ n = cc in

@@ -80,7 +80,7 @@ module _ {N : Type 0} (ν : Names N) (law : Lawful (orderAtom ν)) (held : N →
       go : (b : Bool) → is_yes (ν.same w x) ≡ b → (n : ℕ) → get_elem? (w ∷ ws) n ≡ some x
           → ((n : ℕ) → get_elem? ws n ≡ some x → first_equal ν (suc k) ws x ≡ none → ⊥) → ⊥
       go true l n m r = some≢none (rw (l, first_equal) at j)
-      go false l zero m r = let z : w ≡ x = cc in let y : true ≡ false = sym (is-yes (ν.same w x) z) ∙ l in let c : ◌≡◌ {A = ℕ} 0 1 = cc in omega arith
+      go false l zero m r = let z : w ≡ x = cc in let y : true ≡ false = sym (is-yes (ν.same w x) z) ∙ l in cc
       go false l (suc n) m r = r n m (rw (l, first_equal) at j)
 
   -- a variable that was handed is none of the names afterwards
@@ -93,7 +93,7 @@ module _ {N : Type 0} (ν : Names N) (law : Lawful (orderAtom ν)) (held : N →
       go (some u) l =
           let (y, (m, n)) = all-at ν 0 vs o u l in
           let z : quant (0 + n.place) ≡ var x = sym n.is ∙ sym (moved-some f o u l) ∙ sym j ∙ k in
-          let c : ◌≡◌ {A = ℕ} 0 1 = cc in omega arith
+          cc
 
   -- a quantified variable that occurs is the place where its name was handed first
   first-place : (i : ℕ) (x : N) → Becomes P f (quant i) → get_elem? vs i ≡ some x → first_equal ν 0 vs x ≡ some (quant i)
@@ -144,7 +144,7 @@ module _ {N : Type 0} (ν : Names N) (law : Lawful (orderAtom ν)) (held : N →
       go (some w) i k = let (y, (m, n)) = all-at ν 0 vs (par x) w i in absurd (not-handed y m n)
         where
           not-handed : (y : N) → (par x ≡ var y) ⊎ (par x ≡ par y) → At ν 0 vs y w → ⊥
-          not-handed y (inl m) n = let c : ◌≡◌ {A = ℕ} 0 1 = cc in omega arith
+          not-handed y (inl m) n = cc
           not-handed y (inr m) n = a.no-parameter y (there-in vs n.place y n.there) (rw m at p)
   again-is (var x) u p e = go (f (var x)) refl e
     where
@@ -153,7 +153,7 @@ module _ {N : Type 0} (ν : Names N) (law : Lawful (orderAtom ν)) (held : N →
       go (some w) i k = let (y, (m, n)) = all-at ν 0 vs (var x) w i in (x, (refl, itself y m n))
         where
           itself : (y : N) → (var x ≡ var y) ⊎ (var x ≡ par y) → At ν 0 vs y w → u ≡ var x
-          itself y (inr m) n = absurd (let c : ◌≡◌ {A = ℕ} 0 1 = cc in omega arith)
+          itself y (inr m) n = absurd (cc)
           itself y (inl m) n =
               let z : some (moved (back vs) w) ≡ some u = k in
               let b : moved (back vs) w ≡ u = cc in

@@ -4,7 +4,7 @@ use Rattle.std.proofs.Math.Path.{refl, ap}
 use Rattle.std.proofs.Common.{sym, ◌∙◌, inl, inr, le-leb}
 use mathlib.Core.List.Memᴰ
 use mathlib.Core.List.{[], ◌∷◌, Memᴰ}
-use Prim.Native.Nat.{ℕ, suc, ◌≤◌, Ordering}
+use Prim.Native.Nat.{suc, ◌≤◌, Ordering}
 use native.Mathlib.Omega.{arith}
 use Rattle.std.proofs.Math.ListN.{length}
 use Rattle.rules.specs.Base.{got, bounded}
@@ -13,7 +13,7 @@ use Rattle.rules.specs.Trees.{Open, Atom, free, Factor, ◌↑◌, Product, Name
 use Rattle.rules.specs.Products.{put, just, inverse, mergeOne, merge, multiply, divide, raise}
 use Rattle.rules.specs.WellFormed.{atomOf}
 use Rattle.laws.specs.Order.{Lawful}
-use Rattle.laws.proofs.Order.{self}
+use Rattle.laws.proofs.Order.{self, before_differs}
 use Rattle.laws.specs.Lists.{All, in_head, and_left}
 use Rattle.laws.proofs.Lists.{every-all}
 use Rattle.laws.proofs.Fractions.{plus-neg, mul-one', mul-comm'}
@@ -75,9 +75,6 @@ module _ {N : Type 0} (ν : Names N) (law : Lawful (orderAtom ν)) where
     unfolding merge mergeOne
     merge-here i = rw (i, mergeOne)
 
-  not-self : (a b : Atom N) → orderAtom ν a b ≡ Ordering.lt → ¬ (b ≡ a)
-  not-self a b h e = let i : orderAtom ν a b ≡ Ordering.eq = rw e (self law a) in let z : ◌≡◌ {A = ℕ} 0 1 = cc in omega arith
-
   behind : (a : Atom N) (e : Exp) (p : Product N) → Sorted ν (a ↑ e ∷ p) → (x : Factor N) → Memᴰ x p → orderAtom ν a (atomOf x) ≡ Ordering.lt
   behind a e p s x m = every-all (λ f. orderAtom ν a (atomOf f) ≡ Ordering.lt) p s.0 x m
 
@@ -100,7 +97,7 @@ module _ {N : Type 0} (ν : Names N) (law : Lawful (orderAtom ν)) where
               record {
                 kept = λ f n. first f (Memᴰ.cases_cons n);
                 from = λ f n. Memᴰ.tail n;
-                gone = λ f n h. not-self b (atomOf f) (behind b d p s f n) (h ∙ x);
+                gone = λ f n h. before_differs law b (atomOf f) (behind b d p s f n) (sym (h ∙ x));
                 shorter = refl;
               },
             ),
@@ -138,7 +135,7 @@ module _ {N : Type 0} (ν : Names N) (law : Lawful (orderAtom ν)) where
           second f q h (inr k) = Memᴰ.tail (h.from f k)
 
           third : (f : Factor N) (q : Product N) → orderAtom ν b a ≡ Ordering.lt → Removed (a ↑ e) p q → (f ≡ b ↑ d) ⊎ Memᴰ f q → ¬ (atomOf f ≡ a)
-          third f q o h (inl j) k = not-self b a o (sym k ∙ ap atomOf j)
+          third f q o h (inl j) k = before_differs law b a o (sym (sym k ∙ ap atomOf j))
           third f q o h (inr n) k = h.gone f n k
 
   pub inserted : (a : Atom N) (e : Exp) (p : Product N) → All (λ x. ¬ (orderAtom ν (atomOf x) a ≡ Ordering.eq)) p
@@ -182,7 +179,7 @@ module _ {N : Type 0} (ν : Names N) (law : Lawful (orderAtom ν)) where
   -- ══ A product in order is its factors ══
 
   before-both : (a b : Atom N) → orderAtom ν a b ≡ Ordering.lt → orderAtom ν b a ≡ Ordering.lt → ⊥
-  before-both a b h k = not-self a a (law.trans a b a h k) refl
+  before-both a b h k = before_differs law a a (law.trans a b a h k) refl
 
   pub same-factors : (p q : Product N) → Sorted ν p → Sorted ν q → ((x : Factor N) → Memᴰ x p → Memᴰ x q) → ((x : Factor N) → Memᴰ x q → Memᴰ x p) → p ≡ q
   same-factors [] [] s t f g = refl
@@ -196,7 +193,7 @@ module _ {N : Type 0} (ν : Names N) (law : Lawful (orderAtom ν)) where
       inner p' q' i l h x m = more (h x m)
         where
           more : (x ≡ b ↑ d) ⊎ Memᴰ x q' → Memᴰ x q'
-          more (inl j) = absurd (not-self a (atomOf x) (l x m) (ap atomOf (j ∙ sym i)))
+          more (inl j) = absurd (before_differs law a (atomOf x) (l x m) (ap atomOf (i ∙ sym j)))
           more (inr n) = n
 
       joined : a ↑ e ≡ b ↑ d → (((x : Factor N) → Memᴰ x p → Memᴰ x q) → ((x : Factor N) → Memᴰ x q → Memᴰ x p) → p ≡ q) → a ↑ e ∷ p ≡ b ↑ d ∷ q

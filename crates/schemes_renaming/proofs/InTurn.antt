@@ -202,10 +202,10 @@ module _ {N : Type 0} (ν : Names N) where
             go (some w) k = absurd (no-quant i (e ∙ ap (λ (s : Option (Open N)). get_or s o) k ∙ turn o w k))
 
         other-var : {x : N} (n : ℕ) → var x ≡ quant n → ⊥
-        other-var n e = let z : ◌≡◌ {A = ℕ} 0 1 = cc in omega arith
+        other-var n e = cc
 
         other-par : {x : N} (n : ℕ) → par x ≡ quant n → ⊥
-        other-par n e = let z : ◌≡◌ {A = ℕ} 0 1 = cc in omega arith
+        other-par n e = cc
 
 module _ {N : Type 0} (ν : Names N) (law : Lawful (orderAtom ν)) (held : N → Bool) (q : ℕ) (tells : Tells (λ a. goodAtom ν held q a ≡ true) (orderAtom ν)) where
   turns-twice : (i : ℕ) (v : N) (vs : List N) (P : Open N → Type 0) → i + length (v ∷ vs) ≤ q → Fair ν held q i P

@@ -14,7 +14,7 @@ use Rattle.rules.specs.Replacing.{asProduct, replaceFactors, replaceProduct}
 use Rattle.rules.specs.Schemes.{renamed}
 use Rattle.rules.specs.WellFormed.{atomOf, goodOpen, goodProduct}
 use Rattle.laws.specs.Order.{Lawful, Tells}
-use Rattle.laws.proofs.Order.{self}
+use Rattle.laws.proofs.Order.{before_differs}
 use Rattle.laws.specs.Lists.{All, in_head, all-every}
 use Rattle.laws.proofs.Lists.{every-all, collect-from}
 use Rattle.laws.specs.Sorted.{Sorted}
@@ -78,9 +78,6 @@ module _ {N : Type 0} (ν : Names N) (law : Lawful (orderAtom ν)) (held : N →
       done : (z : Factor N) → D z → Memᴰ (movedFactor f z) acc
       only : (x : Factor N) → Memᴰ x acc → Memᴰ x rest ⊎ ((z : Factor N) × (D z × (x ≡ movedFactor f z)))
 
-    distinct : (a b : Atom N) → orderAtom ν a b ≡ Ordering.lt → ¬ (a ≡ b)
-    distinct a b l e = let i : orderAtom ν a b ≡ Ordering.eq = rw (sym e) (self law a) in let z : ◌≡◌ {A = ℕ} 0 1 = cc in omega arith
-
     module _ (D : Factor N → Type 0) (y : Factor N) (rest acc : Product N) (w : Under D (y ∷ rest) acc) where
       next-before : (z : Factor N) → Memᴰ z rest → orderAtom ν (atomOf y) (atomOf z) ≡ Ordering.lt
       next-before z m = go y w.in-order-rest
@@ -136,7 +133,7 @@ module _ {N : Type 0} (ν : Names N) (law : Lawful (orderAtom ν)) (held : N →
 
       -- the name isn't one of those before it
       not-before : (x : Open N) (k : Exp) → D (free x ↑ k) → ¬ (x ≡ o)
-      not-before x k d i = distinct (free x) (free o) (w.earlier (free x ↑ k) (free o ↑ e) d in_head) (ap free i)
+      not-before x k d i = before_differs law (free x) (free o) (w.earlier (free x ↑ k) (free o ↑ e) d in_head) (ap free i)
 
       moved-held : (x : Open N) (k : Exp) → D (free x ↑ k) → goodOpen ν held q (moved f x) ≡ true
       moved-held x k d = go (f x) refl
@@ -171,7 +168,7 @@ module _ {N : Type 0} (ν : Names N) (law : Lawful (orderAtom ν)) (held : N →
               more (inr k) = k v p j
 
           image : (z : Factor N) → D z → atomOf (movedFactor f z) ≡ free u → ⊥
-          image (base b ↑ k) d j = let t : ◌≡◌ {A = ℕ} 0 1 = cc in omega arith
+          image (base b ↑ k) d j = cc
           image (free v ↑ k) d j = more (f v) refl
             where
               more : (t : Option (Open N)) → f v ≡ t → ⊥
@@ -182,7 +179,7 @@ module _ {N : Type 0} (ν : Names N) (law : Lawful (orderAtom ν)) (held : N →
                   not-before v k d (h.apart v o u (w.ok (free v ↑ k) d).1 own (l ∙ ap some c) n)
 
           here : (y : Factor N) → Ok y → atomOf y ≡ free u → ¬ (atomOf y ≡ free o) → ⊥
-          here (base b ↑ k) g j l = let t : ◌≡◌ {A = ℕ} 0 1 = cc in omega arith
+          here (base b ↑ k) g j l = cc
           here (free v ↑ k) g j l = in_rest v g.1 (cc) (λ c. l (ap free c))
 
           go : (y : Factor N) → Memᴰ y (free o ↑ e ∷ rest) ⊎ ((z : Factor N) × (D z × (y ≡ movedFactor f z))) → atomOf y ≡ free u → ¬ (atomOf y ≡ free o) → ⊥
@@ -194,7 +191,7 @@ module _ {N : Type 0} (ν : Names N) (law : Lawful (orderAtom ν)) (held : N →
 
       -- what was renamed before isn't what is taken out
       not-out : (z : Factor N) → D z → ¬ (movedFactor f z ≡ free o ↑ e)
-      not-out (base b ↑ k) d i = let t : ◌≡◌ {A = ℕ} 0 1 = cc in omega arith
+      not-out (base b ↑ k) d i = cc
       not-out (free v ↑ k) d i = go (f v) refl
         where
           same : moved f v ≡ o
@@ -226,7 +223,7 @@ module _ {N : Type 0} (ν : Names N) (law : Lawful (orderAtom ν)) (held : N →
         where
           waits : (x : Factor N) → Memᴰ x rest → (x ≡ free o ↑ e) ⊎ Memᴰ x s.left → Memᴰ x s.left
           waits x m (inr i) = i
-          waits x m (inl i) = absurd (distinct (free o) (atomOf x) (next-before D (free o ↑ e) rest acc w x m) (sym (ap atomOf i)))
+          waits x m (inl i) = absurd (before_differs law (free o) (atomOf x) (next-before D (free o ↑ e) rest acc w x m) (sym (ap atomOf i)))
 
           made : (z : Factor N) → With D (free o ↑ e) z → Memᴰ (movedFactor f z) acc'
           made z (inr i) = rw (i, new-factor) s.in'.new

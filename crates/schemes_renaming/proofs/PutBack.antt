@@ -57,12 +57,12 @@ module _ {N : Type 0} (ν : Names N) (law : Lawful (orderAtom ν)) (held : N →
   good-put o t e = let (x, (i, h)) = put o t e in rw i h
 
   no-quant : {x : N} (j : ℕ) → var x ≡ quant j → ⊥
-  no-quant j e = let z : ◌≡◌ {A = ℕ} 0 1 = cc in omega arith
+  no-quant j e = cc
 
   stays : (o : Open N) → P o → renamed (back vs) o ≡ none → Q o
   unfolding goodOpen back
-  stays (var x) p e = (p, λ j i. let z : ◌≡◌ {A = ℕ} 0 1 = cc in omega arith)
-  stays (par x) p e = (p, λ j i. let z : ◌≡◌ {A = ℕ} 0 1 = cc in omega arith)
+  stays (var x) p e = (p, λ j i. cc)
+  stays (par x) p e = (p, λ j i. cc)
   stays (quant i) p e = absurd (let (x, k) = found vs i (ltb-true i (length vs) p) in some≢none (rw k at e))
 
   goes : (o : Open N) (t : Ty N) → P o → renamed (back vs) o ≡ some t → All Q (opens t)

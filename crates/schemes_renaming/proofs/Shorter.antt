@@ -139,7 +139,7 @@ module _ {N : Type 0} (ν : Names N) (law : Lawful (orderAtom ν)) where
         later v d m i =
             let a : orderAtom ν (free o) (free v) ≡ Ordering.lt = every-all (λ x. orderAtom ν (free o) (atomOf x) ≡ Ordering.lt) rest s.0 (free v ↑ d) m in
             let b : orderAtom ν (free o) (free v) ≡ Ordering.eq = rw (ap atomOf i) (self law (free o)) in
-            let z : ◌≡◌ {A = ℕ} 0 1 = cc in omega arith
+            cc
 
         moved_on : (u : Open N) → f o ≡ some u
             → ((acc' : Product N) → Sorted ν acc' → Waiting rest acc' → replaceFactors ν bounded (renamed f) rest acc' ≡ got r → length r ≤ length acc')
@@ -251,4 +251,4 @@ module _ {N : Type 0} (ν : Names N) (law : Lawful (orderAtom ν)) where
   }
     where
       later : (u w : Open N) (b : ℕ) (x : N) → u ≡ var x → w ≡ quant b → orderAtom ν (free w) (free u) ≡ Ordering.eq → ⊥
-      later u w b x i j e = let k : Ordering.gt ≡ Ordering.eq = rw (i, j) at e in let z : ◌≡◌ {A = ℕ} 0 1 = cc in omega arith
+      later u w b x i j e = let k : Ordering.gt ≡ Ordering.eq = rw (i, j) at e in cc

@@ -133,7 +133,7 @@ module _ {N : Type 0} (ν : Names N) (law : Lawful (orderAtom ν)) (held : N →
         here = Memᴰ.eq_of_singleton (rw j at (a.moves.to z in_head))
 
         go : (y : Factor N) → z ≡ y → g u ≡ none
-        go (base b ↑ c) l = absurd (let m : base b ↑ c ≡ free u ↑ one = ap (movedFactor f) (sym l) ∙ here in let x : ◌≡◌ {A = ℕ} 0 1 = cc in omega arith)
+        go (base b ↑ c) l = absurd (let m : base b ↑ c ≡ free u ↑ one = ap (movedFactor f) (sym l) ∙ here in cc)
         go (free o ↑ c) l = more (f o) refl
           where
             m : free (moved f o) ↑ c ≡ free u ↑ one

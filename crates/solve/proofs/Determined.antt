@@ -17,16 +17,16 @@ use Rattle.solve.specs.Theorems.{OneResult, SolveDetermined, SolveNumbered}
 
 finish-injective : (a b : Finish) (j k : ℕ) → toldFinish a j ≡ toldFinish b k → (a ≡ b) × (j ≡ k)
 finish-injective (Solved x y) (Solved x' y') j k e = let p : x ≡ x' = cc in let q : y ≡ y' = cc in let r : j ≡ k = cc in (ap₂ Solved p q, r)
-finish-injective (Solved x y) (Unsolved z) j k e = let n : ◌≡◌ {A = ℕ} 0 1 = cc in absurd (omega arith)
-finish-injective (Unsolved x) (Solved y z) j k e = let n : ◌≡◌ {A = ℕ} 0 1 = cc in absurd (omega arith)
+finish-injective (Solved x y) (Unsolved z) j k e = absurd (cc)
+finish-injective (Unsolved x) (Solved y z) j k e = absurd (cc)
 finish-injective (Unsolved x) (Unsolved y) j k e = let p : x ≡ y = cc in let r : j ≡ k = cc in (ap Unsolved p, r)
 
 outcome-injective : (a b : Result Finish Refusal) (j k : ℕ) → toldOutcome a j ≡ toldOutcome b k → (a ≡ b) × (j ≡ k)
 outcome-injective (Ok f) (Ok g) j k e = let h = finish-injective f g j k e in (ap Ok h.0, h.1)
-outcome-injective (Ok (Solved x y)) (Err r) j k e = let n : ◌≡◌ {A = ℕ} 0 1 = cc in absurd (omega arith)
-outcome-injective (Ok (Unsolved x)) (Err r) j k e = let n : ◌≡◌ {A = ℕ} 0 1 = cc in absurd (omega arith)
-outcome-injective (Err r) (Ok (Solved y z)) j k e = let n : ◌≡◌ {A = ℕ} 0 1 = cc in absurd (omega arith)
-outcome-injective (Err r) (Ok (Unsolved y)) j k e = let n : ◌≡◌ {A = ℕ} 0 1 = cc in absurd (omega arith)
+outcome-injective (Ok (Solved x y)) (Err r) j k e = absurd (cc)
+outcome-injective (Ok (Unsolved x)) (Err r) j k e = absurd (cc)
+outcome-injective (Err r) (Ok (Solved y z)) j k e = absurd (cc)
+outcome-injective (Err r) (Ok (Unsolved y)) j k e = absurd (cc)
 outcome-injective (Err r) (Err s) j k e = let q : j ≡ k = cc in (ap Err (number-injective r s (cc)), q)
 
 pub one-result : (a b : Solution) (result result' work work' : List ℕ) → solutionAs a result work ≡ solutionAs b result' work'

@@ -47,12 +47,6 @@ module _ {A B : Type 0} (u : A → Got (Unit {0})) (g : A → Got B) where
       ∙ same_after m (λ x. (u x >> got x) >>= g) (λ a. u a >> g a) (λ a. bracket (u a) (λ _. got a) g) in
       ap (λ (r : Got B). s >> (k >> r)) (sym inner) ∙ past_table s k (m >>= λ x. u x >> got x) g h
 
-pub long-table : (pool table : List ℕ) → lentTable pool table ≡ got tt → (8192 ≤ length pool) × (257 ≤ length table)
-unfolding lentTable
-long-table pool table l =
-    let b = (and-eq-true_iff (leb 8192 (length pool)) (leb 257 (length table))).0 (need-passed (leb 8192 (length pool) && leb 257 (length table)) 10 l) in
-    (leb-true 8192 (length pool) b.0, leb-true 257 (length table) b.1)
-
 -- what is made of a set whose names are apart: the calls that solve
 module _ {A : Type 0} (g : Table → List (Con ℕ) → Got A) where
   abbrev made_past : Table → Got (Unit {0}) → List ℕ → Got A

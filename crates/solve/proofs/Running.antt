@@ -118,10 +118,10 @@ module _ (pool table : List ℕ) where
 
     -- and the state stands where it stood, or was written
     pub going-here : (e : Place) → r ≡ Ok (Read e) → Going cs w e (k + 1)
-    going-here e i = going-on i (λ z. let y : ◌≡◌ {A = ℕ} 0 1 = cc in omega arith) w e (λ s h. h)
+    going-here e i = going-on i (λ z. cc) w e (λ s h. h)
 
     pub going-written : (e : Place) → r ≡ Ok (Written e) → Going cs w' e (k + 1)
-    going-written e i = going-on i (λ z. let y : ◌≡◌ {A = ℕ} 0 1 = cc in omega arith) w' e (λ s h. h)
+    going-written e i = going-on i (λ z. cc) w' e (λ s h. h)
 
     -- no rule applies
     pub going_end : r ≡ Ok Nowhere → answer_of cs ≡ finish (numbers pool table) k g.state
@@ -141,7 +141,7 @@ module _ (pool table : List ℕ) where
         go : (R : Got (Option (State ℕ))) → Round R → answer_of cs ≡ stopped (number_of x) k
         go (refused j) (u, e) = sym e ∙ ap (λ (y : ℕ). stopped y k) (sym (subst (λ (x : Result After Refusal). Rounded pool table w w' x (refused j)) i u).says)
         go (got none) (u, e) = absurd
-            (let z : ◌≡◌ {A = Result After Refusal} (Err x) (Ok Nowhere) = sym i ∙ u.says in let y : ◌≡◌ {A = ℕ} 0 1 = cc in omega arith)
+            (let z : ◌≡◌ {A = Result After Refusal} (Err x) (Ok Nowhere) = sym i ∙ u.says in cc)
         go (got (some s)) (u, e) = absurd (subst (λ (x : Result After Refusal). Rounded pool table w w' x (got (some s))) i u).says
 
   -- ══ The answer ══

@@ -12,7 +12,7 @@ use Rattle.rules.specs.Solving.{Answer, accepted, remaining, stopped, solve}
 use Rattle.rules.specs.Trees.{Names, Con, Binding, opensCon}
 use Rattle.rules.specs.WellFormed.{goodBinding}
 use Rattle.rules.specs.declared.Refusal.{Refusal}
-use Rattle.laws.proofs.Checks.{need-passed}
+use Rattle.laws.proofs.Checks.{need-passed, list-short}
 use Rattle.laws.proofs.Given.{lent-long, kept-good, set-read}
 use Rattle.laws.specs.Lists.{and_left, all-every}
 use Rattle.laws.proofs.Lists.{is_all, bound-step}
@@ -45,10 +45,6 @@ module _ (pool table set : List ℕ) where
     pub given : Given (numbersOf t) (is_held t) cs
     pub accepts : solve (numbersOf t) bounded cs ≡ accepted bs ns rounds
 
-  set-short : shortLists (set ∷ []) ≡ got tt → length set ≤ 8192
-  unfolding shortLists all
-  set-short e = leb-true (length set) 8192 (and_left (leb (length set) 8192) true (need-passed (leb (length set) 8192 && true) 8 e))
-
   pub passed : lentTable pool table ≡ got tt → (bs : List (Binding ℕ)) (ns : List ℕ) (k : ℕ) → solvedSet t set ≡ got (accepted bs ns k) → Passed bs ns k
   unfolding solvedSet apart
   passed h bs ns k e =
@@ -60,7 +56,7 @@ module _ (pool table set : List ℕ) where
       record {
         cs = c.0;
         good = record { bytes = l.0; words = l.1; good = kept-good t q.0 q.1 };
-        short = set-short p.1;
+        short = list-short set p.1;
         kept = q.1;
         read = c.1;
         given = record { well-formed = (set-read t set c.0 c.1).0; apart = need-passed (unmixed (numbersOf t) (collect opensCon c.0)) 4 d.1 };
@@ -116,27 +112,6 @@ module _ (pool table set : List ℕ) where
 
     abbrev Verdict : Names ℕ → List (Con ℕ) → Result (std.Option ℕ) Refusal → Type 0
     Verdict ν cs r = JudgedAs ν cs (solvedSet t set) (toldBy is_none r) × PlacedAs ν cs (solvedSet t set) (toldBy toldOption r)
-
-    -- nothing is judged where there is no accepted answer
-    pub left-unjudged : {n : ℕ} → solution.outcome ≡ Ok (finish.Unsolved n) → (ν : Names ℕ) (cs : List (Con ℕ)) (r : Result (std.Option ℕ) Refusal)
-        → Verdict ν cs r
-    left-unjudged {n} i ν cs r = go (solvedSet t set) (says i)
-      where
-        go : (m : Got (Answer ℕ)) → StandsBy s (Ok (finish.Unsolved n)) solution.rounds m → JudgedAs ν cs m (toldBy is_none r)
-            × PlacedAs ν cs m (toldBy toldOption r)
-        go (refused j) q = (tt, tt)
-        go (got (accepted bs ns k)) q = absurd q
-        go (got (remaining ds k)) q = (tt, tt)
-        go (got (stopped j k)) q = (tt, tt)
-
-    pub stopped-unjudged : {n : Refusal} → solution.outcome ≡ Err n → (ν : Names ℕ) (cs : List (Con ℕ)) (r : Result (std.Option ℕ) Refusal) → Verdict ν cs r
-    stopped-unjudged {n} i ν cs r = go (solvedSet t set) (says i)
-      where
-        go : (m : Got (Answer ℕ)) → StandsBy s (Err n) solution.rounds m → JudgedAs ν cs m (toldBy is_none r) × PlacedAs ν cs m (toldBy toldOption r)
-        go (refused j) q = (tt, tt)
-        go (got (accepted bs ns k)) q = absurd q
-        go (got (remaining ds k)) q = (tt, tt)
-        go (got (stopped j k)) q = (tt, tt)
 
   module _ {s : List ℕ} {b n : ℕ} (o : Own s b n) where
     abbrev p : Passed o.bs o.ns o.rounds

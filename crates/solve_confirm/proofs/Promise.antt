@@ -39,9 +39,6 @@ use Rattle.solve_confirm.proofs.Ruled.{by-verdict, read_of, confirmed-of, refuse
 
 -- ══ What an answer comes from ══
 
-unlike : {A : Type 0} → ◌≡◌ {A = ℕ} 0 1 → A
-unlike e = absurd (omega arith)
-
 module _ (ν : Names ℕ) (cs : List (Con ℕ)) where
   -- an accepted answer was accepted by solving, and the judge said yes
   pub record Both (a : Answer ℕ) (bs : List (Binding ℕ)) (ns : List ℕ) (k : ℕ) : Type 0 where
@@ -58,10 +55,10 @@ module _ (ν : Names ℕ) (cs : List (Con ℕ)) where
           let b : bs' ≡ bs = cc in
           let n : ns' ≡ ns = cc in
           record { is = f; yes = rw (b, n) at i }
-      go (got false) i = let f : ◌≡◌ {A = Answer ℕ} (stopped 11 k') (accepted bs ns k) = rw i at e in unlike cc
-      go (refused j) i = let f : ◌≡◌ {A = Answer ℕ} (stopped j k') (accepted bs ns k) = rw i at e in unlike cc
-  from-confirmed (remaining ds k') bs ns k e = unlike cc
-  from-confirmed (stopped i k') bs ns k e = unlike cc
+      go (got false) i = let f : ◌≡◌ {A = Answer ℕ} (stopped 11 k') (accepted bs ns k) = rw i at e in absurd (cc)
+      go (refused j) i = let f : ◌≡◌ {A = Answer ℕ} (stopped j k') (accepted bs ns k) = rw i at e in absurd (cc)
+  from-confirmed (remaining ds k') bs ns k e = absurd (cc)
+  from-confirmed (stopped i k') bs ns k e = absurd (cc)
 
 module _ (pool table set : List ℕ) where
   abbrev t : Table
@@ -116,9 +113,9 @@ module _ (pool table set : List ℕ) where
     accepts r b k e = go (room >> solvedSet t set) refl
       where
         go : (m : Got (Answer ℕ)) → (room >> solvedSet t set) ≡ m → Accepts r b k
-        go (refused i) f = let z : ◌≡◌ {A = Solved} (refusedAfter i 0) (solved r b k) = rw f at e in unlike cc
-        go (got (remaining ds j)) f = let z : solvedOf (got (remaining ds j)) ≡ solved r b k = rw f at e in unlike cc
-        go (got (stopped i j)) f = let z : ◌≡◌ {A = Solved} (refusedAfter i j) (solved r b k) = rw f at e in unlike cc
+        go (refused i) f = let z : ◌≡◌ {A = Solved} (refusedAfter i 0) (solved r b k) = rw f at e in absurd (cc)
+        go (got (remaining ds j)) f = let z : solvedOf (got (remaining ds j)) ≡ solved r b k = rw f at e in absurd (cc)
+        go (got (stopped i j)) f = let z : ◌≡◌ {A = Solved} (refusedAfter i j) (solved r b k) = rw f at e in absurd (cc)
         go (got (accepted bs ns j)) f =
             let z : ◌≡◌ {A = Solved} (solved (sum_of sizeBinding bs) (length ns) j) (solved r b k) = rw f at e in
             let y : j ≡ k = cc in
@@ -184,7 +181,7 @@ module _ (pool table set : List ℕ) where
         go (refused i) f m g = alike (rw f refl)
         go (got u) f (refused i) g = alike (rw (f, g, refused-of t set i g) refl)
         go (got u) f (got (accepted bs ns j)) g = let z : ◌≡◌ {A = Solved} (solved (sum_of sizeBinding bs) (length ns) j) (unsolved r k) =
-            rw (f, g) at e in unlike cc
+            rw (f, g) at e in absurd (cc)
         go (got u) f (got (remaining ds j)) g = let s = read_of t set (remaining ds j) g
             in alike (rw (f, g, confirmed-of t set (remaining ds j) s.0 g s.1) refl)
         go (got u) f (got (stopped i j)) g = let s = read_of t set (stopped i j) g in alike (rw (f, g, confirmed-of t set (stopped i j) s.0 g s.1) refl)
@@ -199,7 +196,7 @@ module _ (pool table set : List ℕ) where
         go (refused i) f m g = alike (rw f refl)
         go (got u) f (refused i) g = alike (rw (f, g, refused-of t set i g) refl)
         go (got u) f (got (accepted bs ns j)) g = let z : ◌≡◌ {A = Solved} (solved (sum_of sizeBinding bs) (length ns) j) (refusedAfter r k) =
-            rw (f, g) at e in unlike cc
+            rw (f, g) at e in absurd (cc)
         go (got u) f (got (remaining ds j)) g = let s = read_of t set (remaining ds j) g
             in alike (rw (f, g, confirmed-of t set (remaining ds j) s.0 g s.1) refl)
         go (got u) f (got (stopped i j)) g = let s = read_of t set (stopped i j) g in alike (rw (f, g, confirmed-of t set (stopped i j) s.0 g s.1) refl)
@@ -223,9 +220,9 @@ module _ (pool table set : List ℕ) where
     confirms r b k e = go (room >> confirmedSet t set) refl
       where
         go : (m : Got (Answer ℕ)) → (room >> confirmedSet t set) ≡ m → Confirms r b k
-        go (refused i) f = let z : ◌≡◌ {A = Solved} (refusedAfter i 0) (solved r b k) = rw f at e in unlike cc
-        go (got (remaining ds j)) f = let z : solvedOf (got (remaining ds j)) ≡ solved r b k = rw f at e in unlike cc
-        go (got (stopped i j)) f = let z : ◌≡◌ {A = Solved} (refusedAfter i j) (solved r b k) = rw f at e in unlike cc
+        go (refused i) f = let z : ◌≡◌ {A = Solved} (refusedAfter i 0) (solved r b k) = rw f at e in absurd (cc)
+        go (got (remaining ds j)) f = let z : solvedOf (got (remaining ds j)) ≡ solved r b k = rw f at e in absurd (cc)
+        go (got (stopped i j)) f = let z : ◌≡◌ {A = Solved} (refusedAfter i j) (solved r b k) = rw f at e in absurd (cc)
         go (got (accepted bs ns j)) f =
             let z : ◌≡◌ {A = Solved} (solved (sum_of sizeBinding bs) (length ns) j) (solved r b k) = rw f at e in
             let y : j ≡ k = cc in

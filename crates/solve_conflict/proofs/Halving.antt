@@ -251,10 +251,6 @@ module _ (ν : Names ℕ) (cs : List (Con ℕ)) (from to : ℕ) (le : from ≤ t
                 long = a.long ∙ t.long ∙ s.long;
               }
 
-          -- the second half stands as it did
-          pub second-on : On middle to m₃
-          second-on j p q = a.outside j (inr p) ∙ t.inside j (omega (arith, p)) q
-
           pub left-both : (u : Unit {0}) → r₁ ≡ Ok u → (m₄ : List Bool) (r₂ : Result (Unit {0}) Refusal) → LeftOut cs ν d middle to m₃ m₄ r₂
               → LeftOut cs ν (suc d) from to m m₄ r₂
           left-both u i m₄ r₂ b =

@@ -72,10 +72,6 @@ module _ {A : Type 0} where
   part-both (x ∷ xs) (y ∷ ys) zs ws (inl p) q = inl (p.0, part-both xs ys zs ws p.1 q)
   part-both (x ∷ xs) (y ∷ ys) zs ws (inr p) q = inr (part-both (x ∷ xs) ys zs ws p q)
 
-  part-all : (xs : List A) → PartOf xs xs
-  part-all [] = tt
-  part-all (x ∷ xs) = inl (refl, part-all xs)
-
   -- where one element of two lists one after the other stands
   record InFirst (xs ys before : List A) (a : A) (after : List A) : Type 0 where
     rest : List A

@@ -115,13 +115,13 @@ module _ (pool table : List ℕ) where
 -- ══ What its answer says ══
 
 solved≢unsolved : {b n k r j : ℕ} → solved b n k ≡ unsolved r j → ⊥
-solved≢unsolved e = let z : ◌≡◌ {A = ℕ} 0 1 = cc in omega arith
+solved≢unsolved e = cc
 
 solved≢refused : {b n k r j : ℕ} → solved b n k ≡ refusedAfter r j → ⊥
-solved≢refused e = let z : ◌≡◌ {A = ℕ} 0 1 = cc in omega arith
+solved≢refused e = cc
 
 unsolved≢refused : {k r i j : ℕ} → unsolved i k ≡ refusedAfter r j → ⊥
-unsolved≢refused e = let z : ◌≡◌ {A = ℕ} 0 1 = cc in omega arith
+unsolved≢refused e = cc
 
 accepted-no : (a : Answer ℕ) (b n k : ℕ) → solved b n k ≡ solvedOf (got a) → got false ≡ remains a
 unfolding solvedOf remains

@@ -59,12 +59,12 @@ module _ (pool table : List ℕ) (o : Others) (idle : Idle pool table o.before.t
         go (got (bind x t)) s f = absurd (not-bind x t s)
         go (got (split new)) s f = before-stays _ (appended-is o new st f)
         go (got done) s f = before-stays _ (appended-is o [] st f)
-        go (got stuck) s f = absurd (let z : ◌≡◌ {A = ℕ} 0 1 = cc in omega arith)
+        go (got stuck) s f = absurd (cc)
         go (refused l) s f = clash f
 
     pub still : (r : code.Step) → Stepped was d 0 (Ok r) (trySatisfy (numbers pool table) bounded c)
         → Front pool table w (record { start = 0; stuck = stillStuck r k; ends = ends }) st.cons
     still (Bind q) s = record { passed = []; left = st.cons; are = refl; there = nothing-there w 0; stay = h.cons; idle = tt }
-    still (Split q) s = unbound (Split q) (λ x t s. let f = s.says.0 in let z : ◌≡◌ {A = ℕ} 0 1 = cc in omega arith) s
-    still Done s = unbound Done (λ x t s. let f = s.says.0 in let z : ◌≡◌ {A = ℕ} 0 1 = cc in omega arith) s
-    still Stuck s = unbound Stuck (λ x t s. let f = s.says.0 in let z : ◌≡◌ {A = ℕ} 0 1 = cc in omega arith) s
+    still (Split q) s = unbound (Split q) (λ x t s. let f = s.says.0 in cc) s
+    still Done s = unbound Done (λ x t s. let f = s.says.0 in cc) s
+    still Stuck s = unbound Stuck (λ x t s. let f = s.says.0 in cc) s

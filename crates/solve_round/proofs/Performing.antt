@@ -57,22 +57,22 @@ use Rattle.solve_round.proofs.Written.{rounded-as}
 
 bind-fits : (ν : Names ℕ) (c : Con ℕ) (s : Step ℕ) (x : ℕ) (t : Ty ℕ) → Rule ν bounded c s → s ≡ bind x t → sizeBinding (x ≔ t) ≤ sizeCon c
 unfolding sizeCon sizeBinding size
-bind-fits ν c s x t (none-applies e) i = absurd (let z : ◌≡◌ {A = ℕ} 0 1 = cc in omega arith)
-bind-fits ν c s x t (equal-records u j e) i = absurd (let z : ◌≡◌ {A = ℕ} 0 1 = cc in omega arith)
+bind-fits ν c s x t (none-applies e) i = absurd (cc)
+bind-fits ν c s x t (equal-records u j e) i = absurd (cc)
 bind-fits ν c s x t (binds y side u j r n e) i = let z : u ≡ t = cc in go j (ap size z)
   where
     go : Sides c side u → size u ≡ size t → suc (size t) ≤ sizeCon c
     go (inl k) q = rw k (omega (arith, size-pos side))
     go (inr k) q = rw k (omega (arith, size-pos side))
-bind-fits ν c s x t (two-functions ps qs r r' n j e) i = absurd (let z : ◌≡◌ {A = ℕ} 0 1 = cc in omega arith)
-bind-fits ν c s x t (two-lists u v j e) i = absurd (let z : ◌≡◌ {A = ℕ} 0 1 = cc in omega arith)
-bind-fits ν c s x t (two-structs n as' bs fs gs k j e) i = absurd (let z : ◌≡◌ {A = ℕ} 0 1 = cc in omega arith)
-bind-fits ν c s x t (as-product y d j m e) i = absurd (let z : ◌≡◌ {A = ℕ} 0 1 = cc in omega arith)
-bind-fits ν c s x t (two-dimensions d e r k j f) i = absurd (let z : ◌≡◌ {A = ℕ} 0 1 = cc in omega arith)
-bind-fits ν c s x t (dimension p j e) i = absurd (let z : ◌≡◌ {A = ℕ} 0 1 = cc in omega arith)
-bind-fits ν c s x t (no-factor j e) i = absurd (let z : ◌≡◌ {A = ℕ} 0 1 = cc in omega arith)
+bind-fits ν c s x t (two-functions ps qs r r' n j e) i = absurd (cc)
+bind-fits ν c s x t (two-lists u v j e) i = absurd (cc)
+bind-fits ν c s x t (two-structs n as' bs fs gs k j e) i = absurd (cc)
+bind-fits ν c s x t (as-product y d j m e) i = absurd (cc)
+bind-fits ν c s x t (two-dimensions d e r k j f) i = absurd (cc)
+bind-fits ν c s x t (dimension p j e) i = absurd (cc)
+bind-fits ν c s x t (no-factor j e) i = absurd (cc)
 bind-fits ν c s x t (first-factor y k p r n j e) i = let z : dim r ≡ t = cc in rw j (omega (arith, ap size z, each-length _ p r n))
-bind-fits ν c s x t (closed-struct n m as' fs u v o f j e) i = absurd (let z : ◌≡◌ {A = ℕ} 0 1 = cc in omega arith)
+bind-fits ν c s x t (closed-struct n m as' fs u v o f j e) i = absurd (cc)
 
 -- ══ By the answer ══
 
@@ -124,16 +124,16 @@ module _ (pool table : List ℕ) (d : List ℕ) (o : Others) (r : code.Step) (c 
             deep = omega (arith, rule-within (numbers pool table) bounded c (bind x t) v, k.deep);
             fits = omega (arith, z, fits);
           }
-      go (got (split cs)) j s = absurd (let f = s.says.0 in let z : ◌≡◌ {A = ℕ} 0 1 = cc in omega arith)
-      go (got done) j s = absurd (let f = s.says.0 in let z : ◌≡◌ {A = ℕ} 0 1 = cc in omega arith)
-      go (got stuck) j s = absurd (let f = s.says.0 in let z : ◌≡◌ {A = ℕ} 0 1 = cc in omega arith)
+      go (got (split cs)) j s = absurd (let f = s.says.0 in cc)
+      go (got done) j s = absurd (let f = s.says.0 in cc)
+      go (got stuck) j s = absurd (let f = s.says.0 in cc)
       go (refused l) j s = absurd s.says
 
   pub took-split : {q : ℕ} → 8192 ≤ length d → r ≡ Split q → TookSplit q
   took-split {q} room i = go tried refl (answered i)
     where
       go : (R : Got (Step ℕ)) → tried ≡ R → Stepped k.was d 0 (Ok (Split q)) R → TookSplit q
-      go (got (bind x t)) j s = absurd (let f = s.says.0 in let z : ◌≡◌ {A = ℕ} 0 1 = cc in omega arith)
+      go (got (bind x t)) j s = absurd (let f = s.says.0 in cc)
       go (got (split cs)) j s =
           let f = s.says.0 in
           let z : q ≡ 0 + sum_of sizeCon cs = cc in
@@ -149,8 +149,8 @@ module _ (pool table : List ℕ) (d : List ℕ) (o : Others) (r : code.Step) (c 
             };
             sound = record { good = g; flat = omega (arith, most depthCon cs (depthCon c) (rule-within (numbers pool table) bounded c (split cs) v), k.deep) };
           }
-      go (got done) j s = absurd (let f = s.says.0 in let z : ◌≡◌ {A = ℕ} 0 1 = cc in omega arith)
-      go (got stuck) j s = absurd (let f = s.says.0 in let z : ◌≡◌ {A = ℕ} 0 1 = cc in omega arith)
+      go (got done) j s = absurd (let f = s.says.0 in cc)
+      go (got stuck) j s = absurd (let f = s.says.0 in cc)
       go (refused l) j s = absurd s.says
 
 -- whether the constraint is done with, and whether no rule applies
@@ -158,19 +158,19 @@ pub done-is : {was d : List ℕ} {out : ℕ} {r : code.Step} {R : Got (Step ℕ)
 done-is {was} {d} {out} {r} {R} s i = go R (subst (λ (x : code.Step). Stepped was d out (Ok x) R) i s)
   where
     go : (R : Got (Step ℕ)) → Stepped was d out (Ok Done) R → R ≡ got done
-    go (got (bind x t)) s = absurd (let f = s.says.0 in let z : ◌≡◌ {A = ℕ} 0 1 = cc in omega arith)
-    go (got (split cs)) s = absurd (let f = s.says.0 in let z : ◌≡◌ {A = ℕ} 0 1 = cc in omega arith)
+    go (got (bind x t)) s = absurd (let f = s.says.0 in cc)
+    go (got (split cs)) s = absurd (let f = s.says.0 in cc)
     go (got done) s = refl
-    go (got stuck) s = absurd (let f = s.says.0 in let z : ◌≡◌ {A = ℕ} 0 1 = cc in omega arith)
+    go (got stuck) s = absurd (let f = s.says.0 in cc)
     go (refused l) s = absurd s.says
 
 pub stuck-is : {was d : List ℕ} {out : ℕ} {r : code.Step} {R : Got (Step ℕ)} → Stepped was d out (Ok r) R → r ≡ Stuck → R ≡ got stuck
 stuck-is {was} {d} {out} {r} {R} s i = go R (subst (λ (x : code.Step). Stepped was d out (Ok x) R) i s)
   where
     go : (R : Got (Step ℕ)) → Stepped was d out (Ok Stuck) R → R ≡ got stuck
-    go (got (bind x t)) s = absurd (let f = s.says.0 in let z : ◌≡◌ {A = ℕ} 0 1 = cc in omega arith)
-    go (got (split cs)) s = absurd (let f = s.says.0 in let z : ◌≡◌ {A = ℕ} 0 1 = cc in omega arith)
-    go (got done) s = absurd (let f = s.says.0 in let z : ◌≡◌ {A = ℕ} 0 1 = cc in omega arith)
+    go (got (bind x t)) s = absurd (let f = s.says.0 in cc)
+    go (got (split cs)) s = absurd (let f = s.says.0 in cc)
+    go (got done) s = absurd (let f = s.says.0 in cc)
     go (got stuck) s = refl
     go (refused l) s = absurd s.says
 
@@ -189,14 +189,11 @@ pub took-refused : {was d : List ℕ} {out : ℕ} {why : Refusal} {R : Got (Step
 took-refused {was} {d} {out} {why} {R} = go R
   where
     go : (R : Got (Step ℕ)) → Stepped was d out (Err why) R → R ≡ refused (number_of why)
-    go (got (bind x t)) s = absurd (let f = s.says.0 in let z : ◌≡◌ {A = ℕ} 0 1 = cc in omega arith)
-    go (got (split cs)) s = absurd (let f = s.says.0 in let z : ◌≡◌ {A = ℕ} 0 1 = cc in omega arith)
-    go (got done) s = absurd (let f = s.says.0 in let z : ◌≡◌ {A = ℕ} 0 1 = cc in omega arith)
-    go (got stuck) s = absurd (let f = s.says.0 in let z : ◌≡◌ {A = ℕ} 0 1 = cc in omega arith)
+    go (got (bind x t)) s = absurd (let f = s.says.0 in cc)
+    go (got (split cs)) s = absurd (let f = s.says.0 in cc)
+    go (got done) s = absurd (let f = s.says.0 in cc)
+    go (got stuck) s = absurd (let f = s.says.0 in cc)
     go (refused j) s = ap refused (sym s.says)
-
-pub not-stuck : {R : Got (Step ℕ)} {l : ℕ} → R ≡ refused l → R ≡ got stuck → ⊥
-not-stuck e i = let z = sym e ∙ i in cc
 
 -- whichever constraints or bindings stand there, they are these
 pub set-same : (s : List ℕ) (at end : ℕ) (cs : List (Con ℕ)) → IsCons s at end cs → (ds : List (Con ℕ)) → IsCons s at end ds → ds ≡ cs

@@ -43,8 +43,8 @@ sheet-injective (Ok r) (Ok s) e =
     let y : r.constraints ≡ s.constraints = cc in
     let z : r.names ≡ s.names = cc in
     one-read r s x y z
-sheet-injective (Ok r) (Err s) e = let z : ◌≡◌ {A = ℕ} 0 1 = cc in absurd (omega arith)
-sheet-injective (Err r) (Ok s) e = let z : ◌≡◌ {A = ℕ} 0 1 = cc in absurd (omega arith)
+sheet-injective (Ok r) (Err s) e = absurd (cc)
+sheet-injective (Err r) (Ok s) e = absurd (cc)
 sheet-injective (Err r) (Err s) e =
     let x : r.why ≡ s.why = number-injective r.why s.why (cc) in
     let y : r.line ≡ s.line = cc in

@@ -37,17 +37,17 @@ use Rattle.text_dimensions.specs.Factors.{is_at, MoreDone, fromNone, Followed}
 
 -- at a point that is no place in the line nothing is multiplied
 pub idle : {B : Type 0} {m : Step B} {T : B → List Rec → Type 0} {x : Lent} (q : Point) → false ≡ is_at q → Halted q x.stand → NotBad q → Effect m T x x
-idle (point.At i) e h n = let z : ◌≡◌ {A = ℕ} 0 1 = cc in absurd (omega arith)
+idle (point.At i) e h n = absurd (cc)
 idle point.Deep e h n = record { does = λ i j i' j' p q. absurd (h i j refl p); refuses = λ i j c r p q. absurd (h i j refl p) }
 idle (point.Bad q) e h n = absurd n
 
 pub at-fine : (q : Point) → true ≡ is_at q → NotBad q
 at-fine (point.At i) e = tt
 at-fine point.Deep e = tt
-at-fine (point.Bad q) e = let z : ◌≡◌ {A = ℕ} 0 1 = cc in omega arith
+at-fine (point.Bad q) e = cc
 
 pub at-halted : {s : Stand} (q : Point) → true ≡ is_at q → Halted q s
-at-halted q e k n h p = let z : ◌≡◌ {A = Bool} true false = e ∙ ap is_at h in let y : ◌≡◌ {A = ℕ} 0 1 = cc in omega arith
+at-halted q e k n h p = let z : ◌≡◌ {A = Bool} true false = e ∙ ap is_at h in cc
 
 -- where the sheet goes on now, it went on before
 pub record WentOn (s : Stand) : Type 0 where
@@ -60,7 +60,7 @@ went_on {x} {y} k e = go x.stand refl
   where
     go : (s : Stand) → x.stand ≡ s → WentOn s
     go (Ok tally) p = record { fresh = tally.names; records = tally.records; is = refl }
-    go (Err stop) p = let h = k.refused stop.why stop.at p in let z : ◌≡◌ {A = ℕ} 0 1 = cc in absurd (omega arith)
+    go (Err stop) p = let h = k.refused stop.why stop.at p in absurd (cc)
 
 -- ══ One factor ══
 

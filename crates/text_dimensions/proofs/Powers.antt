@@ -44,7 +44,7 @@ signed-good true n d h k l = ap goodExp (lowest-neg (pos n) d) ∙ neg-good (low
 signed-good false n d h k l = lowest-good n d h k l
 
 no_value : {e : Exp} {w : Got Exp} → got e ≡ w → w ≡ refused 7 → ⊥
-no_value e f = let z : ◌≡◌ {A = ℕ} 0 1 = cc in omega arith
+no_value e f = cc
 
 value-good : (m : Bool) (n d : ℕ) (e : Exp) → got e ≡ value_of m n d → goodExp e ≡ true
 value-good m n d e q = go (leb n top) refl (leb 1 d) refl (leb d top) refl
@@ -75,7 +75,7 @@ columned-then c R K k = record { so = λ p q v e. go (R p) q v e }
   where
     go : (m : Parsed _) (q : Place) (v : PowerAt) → pass m K ≡ read v q → v.column ≡ c
     go (read a p) q v e = (k a).so p q v e
-    go (bad d) q v e = let z : ◌≡◌ {A = ℕ} 0 1 = cc in absurd (omega arith)
+    go (bad d) q v e = absurd (cc)
 
 columned-give : (v : PowerAt) → Columned v.column (give v)
 columned-give v = record { so = λ p q w e. let z : v ≡ w = cc in ap (λ (u : PowerAt). u.column) (sym z) }
@@ -111,8 +111,8 @@ sign-fine {line} {p} {c} x = go p c x.is
     go : (p c : Point) → from line p column ≡ standing line c x.value → NotBad p → NotBad c
     go p (point.At i) e n = tt
     go p point.Deep e n = tt
-    go (point.At i) (point.Bad j) e n = let z : ◌≡◌ {A = ℕ} 0 1 = cc in omega arith
-    go point.Deep (point.Bad j) e n = let z : ◌≡◌ {A = ℕ} 0 1 = cc in omega arith
+    go (point.At i) (point.Bad j) e n = cc
+    go point.Deep (point.Bad j) e n = cc
     go (point.Bad i) (point.Bad j) e n = n
 
 power-sign : {line : Bytes} {p c q : Point} {P : PowerAt → Type 0} (x : Reads line p column (λ (k : ℕ). k ≡ columnAt c) c) (y : Reads line p power P q)
@@ -171,7 +171,7 @@ power-refused s at v r c e = rw e
 
 power-going : (s : Stand) (at : ℕ) (v : Result Exponent Refusal) (k n : ℕ) → powerStand s at v ≡ stand.Going k n → s ≡ stand.Going k n
 power-going (Ok tally) at (Ok e) k n q = q
-power-going (Ok tally) at (Err why) k n q = let z : ◌≡◌ {A = ℕ} 0 1 = cc in absurd (omega arith)
+power-going (Ok tally) at (Err why) k n q = absurd (cc)
 power-going (Err stop) at v k n q = q
 
 module _ {line : Bytes} {p : Point} {pool table : List ℕ} (dst : List ℕ) {s : Stand} (ready : Ready line p pool table s) where

@@ -110,8 +110,8 @@ module _ {pool table : List ℕ} {q : Product} (kind name : ℕ) (e : Exp) (at :
         let m = sym same-product ∙ made-refused (number_of why) _ made in
         record {
           well = w;
-          refused = λ r d p. let z : ◌≡◌ {A = ℕ} 0 1 = cc in absurd (omega arith);
-          going = λ i j p. let z : ◌≡◌ {A = ℕ} 0 1 = cc in absurd (omega arith);
+          refused = λ r d p. absurd (cc);
+          going = λ i j p. absurd (cc);
           effect = λ dst. stops going refl (ap (λ (g : Got Tree). placed (suc at) g (sofar (lent pool table dst s) k n)) m);
         }
 

@@ -41,7 +41,7 @@ product-long q (Err stop) s d = refl
 -- ══ A dimension as a step ══
 
 no-stand : {s : Stand} {k n c : ℕ} {r : Refusal} → s ≡ stand.Refused r c → s ≡ stand.Going k n → ⊥
-no-stand e f = let z : ◌≡◌ {A = ℕ} 0 1 = cc in omega arith
+no-stand e f = cc
 
 told_same : {s : Stand} {r r' : Refusal} {d d' : ℕ} → s ≡ stand.Refused r' d' → s ≡ stand.Refused r d
     → ◌≡◌ {A = Told Tree} (refusedAt (number_of r') (suc d')) (refusedAt (number_of r) (suc d))

@@ -35,12 +35,6 @@ pub name-past : name beyond ≡ read noName beyond
 unfolding name
 name-past = refl
 
-pub byte-there : (line : Bytes) (i : ℕ) → i < length line → get_or line i 0 ≡ byte_of line (point.At i)
-byte-there line i h = rw (drop-cons line i 0 h)
-
-pub byte-end : (line : Bytes) (i : ℕ) → length line ≤ i → 0 ≡ byte_of line (point.At i)
-byte-end line i h = rw (drop_of_length-le line {i = i} h)
-
 -- a rule for another byte is passed over
 pub pick_other : {A : Type 0} (b : ℕ) (x : Char × Rule A) (xs : List (Char × Rule A)) → (b ≡ code x.0 → ⊥) → pick b (x ∷ xs) ≡ pick b xs
 pick_other b x xs n = rw (ne_eqb b (code x.0) n, pick)

@@ -13,7 +13,7 @@ use Rattle.text_grammar.specs.declared.inner.Point.TheVariants as point
 use Rattle.text_grammar.specs.Signs.{spelled}
 
 pub bad≢read : {A : Type 0} {c : ℕ} {a : A} {p : Place} → bad c ≡ read a p → ⊥
-bad≢read e = let z : ◌≡◌ {A = ℕ} 0 1 = cc in omega arith
+bad≢read e = cc
 
 -- how long a sign is that was read
 pub record Long (ws bs : Bytes) (c c' : ℕ) : Type 0 where

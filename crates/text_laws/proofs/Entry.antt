@@ -37,7 +37,7 @@ module _ {pool table : List ℕ} (g : Good pool table) where
   }
 
   no_number : (k : ℕ) → Entry pool table pool table (refused k)
-  no_number k = entry-same (refused k) (λ i w e. let z : ◌≡◌ {A = ℕ} 0 1 = cc in absurd (omega arith))
+  no_number k = entry-same (refused k) (λ i w e. absurd (cc))
 
   one_answer : {i j : ℕ} {v w : Was} → ◌≡◌ {A = Got (ℕ × Was)} (got (i, v)) (got (j, w)) → (i ≡ j) × (v ≡ w)
   one_answer {i} {j} {v} {w} e = let p : ◌≡◌ {A = ℕ × Was} (i, v) (j, w) = cc in (ap (λ q. q.0) p, ap (λ q. q.1) p)

@@ -113,9 +113,6 @@ byte_fits b = go (is_plain b) refl
     go true e = record { short = rw e (omega arith); flat = rw e (record { every = (plain-no b 10 refl e, tt) }) }
     go false e = record { short = rw e (omega arith); flat = rw e (record { every = (refl, (hex-flat (b / 16), (hex-flat (b % 16), tt))) }) }
 
-pub byte-short : (b : ℕ) → length (escaped b) ≤ 3
-byte-short b = (byte_fits b).short
-
 name-fits : (n : Bytes) → NameFits n
 unfolding nameText collect
 name-fits [] = record { short = omega arith; flat = record { every = tt } }
@@ -142,9 +139,6 @@ decimal-fits (suc k) n = go (ltb n 10) refl (decimal-fits k (n / 10))
       short = rw (e, decimal) (simp length-append (omega (arith, h.short)));
       flat = rw (e, decimal) (plus h.flat (record { every = (ne_eqb (n % 10 + 48) 10 (omega arith), tt) }));
     }
-
-pub digits-short : (k n : ℕ) → length (decimal k n) ≤ k
-digits-short k n = (decimal-fits k n).short
 
 -- at most so many bytes, none of them a line feed
 record Fits (bs : Bytes) (n : ℕ) : Type 0 where
@@ -180,15 +174,6 @@ power-fits (frac n d) = go (is_yes (Exp-dec (frac n d) one)) refl
           flat = rw (e, powerText) (plus (lit (ascii "^(") refl) (plus g.flat (plus h.flat (lit (ascii ")") refl))));
         }
 
-pub numerator-short : (n : ℤ) → length (numeratorText n) ≤ 11
-numerator-short n = (numerator-fits n).short
-
-pub denominator-short : (d : ℕ) → length (denominatorText d) ≤ 11
-denominator-short d = (denominator-fits d).short
-
-pub power-short : (e : Exp) → length (powerText e) ≤ 25
-power-short e = (power-fits e).short
-
 -- ══ Types ══
 
 module _ {pool table : List ℕ} (good : Good pool table) where
@@ -218,9 +203,6 @@ module _ {pool table : List ℕ} (good : Good pool table) where
   factor-fits (free (quant i) ↑ e) g = absurd (omega (arith, ltb-true i 0 (and_left (ltb i 0) _ g)))
   factor-fits (free (par x) ↑ e) g = marked 33 x e refl (and_left (is_held (table_of pool table) x) _ g)
   factor-fits (base x ↑ e) g = marked 35 x e refl (and_left (is_held (table_of pool table) x) _ g)
-
-  pub factor-short : (f : Factor ℕ) → IsGood f → length (factorText name_of f) ≤ 170
-  factor-short f g = (factor-fits f g).short
 
   more-factors-fit : (p : Product ℕ) → Every IsGood p → Fits (moreFactorsText name_of p) (length p * 173)
   unfolding moreFactorsText all
@@ -345,9 +327,6 @@ module _ {pool table : List ℕ} (good : Good pool table) where
 
   pub types-short : (ts : Tys ℕ) → areGood ts ≡ true → length (moreTysText name_of ts) ≤ sizeTys ts * 173
   types-short ts g = (more-types-fit ts g).short
-
-  pub parameters-short : (ts : Tys ℕ) → areGood ts ≡ true → length (tysText name_of ts) ≤ sizeTys ts * 173
-  parameters-short ts g = (parameters-fit ts g).short
 
   pub fields-short : (fs : Fields ℕ) → fieldsGood fs ≡ true → length (moreFieldsText name_of fs) ≤ sizeFields fs * 173
   fields-short fs g = (more-fields-fit fs g).short

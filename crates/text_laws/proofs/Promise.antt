@@ -142,7 +142,7 @@ refused-unchanged pool table text result work n k c e = go (sheetGiven pool tabl
   where
     go : (s : Sheet) → (handed pool table result (workAfter (lent pool table result work) work) s).answer ≡ notRead n k c
         → Unchanged pool table result (handed pool table result (workAfter (lent pool table result work) work) s)
-    go (sheet cs s) e = let z : ◌≡◌ {A = ℕ} 0 1 = cc in absurd (omega arith)
+    go (sheet cs s) e = absurd (cc)
     go (refusedIn n k c) e = record { pools = refl; tables = refl; results = refl }
 
 -- ══ The first bad line ══
@@ -182,12 +182,12 @@ pub record FirstBad (first : ℕ) (lines : List Bytes) (start : Sofar) (n k c : 
   pub refuses : lineRead bad sofar ≡ refusedAt n c
 
 with-refused : (cs : List (Con ℕ)) (x : Sheet) (n k c : ℕ) → with cs x ≡ refusedIn n k c → x ≡ refusedIn n k c
-with-refused cs (sheet ds s) n k c e = let z : ◌≡◌ {A = ℕ} 0 1 = cc in absurd (omega arith)
+with-refused cs (sheet ds s) n k c e = absurd (cc)
 with-refused cs (refusedIn m l d) n k c e = e
 
 first-bad : (ls : List Bytes) (first : ℕ) (start : Sofar) (n k c : ℕ) → lines_read first ls start ≡ refusedIn n k c → FirstBad first ls start n k c
 unfolding lines_read
-first-bad [] first start n k c e = let z : ◌≡◌ {A = ℕ} 0 1 = cc in absurd (omega arith)
+first-bad [] first start n k c e = absurd (cc)
 first-bad (l ∷ ls) first start n k c e = go (lineRead l start) refl (λ s. first-bad ls (suc first) s n k c)
   where
     go : (t : Told (List (Con ℕ))) → lineRead l start ≡ t
@@ -227,7 +227,7 @@ record Behind (cs : List (Con ℕ)) (s : Sofar) (ds : List (Con ℕ)) (x : Sheet
 
 with_read : (ds : List (Con ℕ)) (x : Sheet) (cs : List (Con ℕ)) (s : Sofar) → with ds x ≡ sheet cs s → Behind cs s ds x
 with_read ds (sheet es t) cs s e = record { rest = es; is = cc; whole = cc }
-with_read ds (refusedIn n k c) cs s e = let z : ◌≡◌ {A = ℕ} 0 1 = cc in absurd (omega arith)
+with_read ds (refusedIn n k c) cs s e = absurd (cc)
 
 -- lines that are read, and whatever lines behind them
 pub read-on : (ls more : List Bytes) (first : ℕ) (start : Sofar) (cs : List (Con ℕ)) (s : Sofar) → lines_read first ls start ≡ sheet cs s
@@ -244,7 +244,7 @@ read-on (l ∷ ls) more first start cs s e = go (lineRead l start) refl (λ t ds
         → ((u : Sofar) (ds : List (Con ℕ)) → lines_read (suc first) ls u ≡ sheet ds s
         → lines_read (suc first) (ls ++ more) u ≡ with ds (lines_read (suc first + length ls) more s))
         → lines_read first ((l ∷ ls) ++ more) start ≡ with cs (lines_read (first + length (l ∷ ls)) more s)
-    go (refusedAt m d) q f = let w : refusedIn m first d ≡ sheet cs s = rw q at e in let z : ◌≡◌ {A = ℕ} 0 1 = cc in absurd (omega arith)
+    go (refusedAt m d) q f = let w : refusedIn m first d ≡ sheet cs s = rw q at e in absurd (cc)
     go (told ds u) q f =
         let b = with_read ds (lines_read (suc first) ls u) cs s (rw q at e) in
         let k : suc first + length ls ≡ first + suc (length ls) = omega arith in
@@ -294,7 +294,7 @@ refused-text pool table text n k c e =
 -- ══ For the call ══
 
 handed-refused : (pool table result work : List ℕ) (s : Sheet) (n k c : ℕ) → (handed pool table result work s).answer ≡ notRead n k c → s ≡ refusedIn n k c
-handed-refused pool table result work (sheet cs s) n k c e = let z : ◌≡◌ {A = ℕ} 0 1 = cc in absurd (omega arith)
+handed-refused pool table result work (sheet cs s) n k c e = absurd (cc)
 handed-refused pool table result work (refusedIn m l d) n k c e = cc
 
 in-a-line : (g : Got (Unit {0})) (s : Sheet) (n k c : ℕ) → fromEntry g s ≡ refusedIn n (suc k) c → s ≡ refusedIn n (suc k) c

@@ -1,5 +1,5 @@
 -- Names and powers that were written are read back.
-use Rattle.std.specs.Prelude.{ℕ, ◌-◌, ◌<◌}
+use Rattle.std.specs.Prelude.{ℕ, ◌<◌}
 
 -- ══ Names ══
 

@@ -33,7 +33,7 @@ shaped-then {A} {t} R K k = record { so = λ p q v e. go (R p) q v e }
   where
     go : (m : Parsed A) (q : Place) (v : TyAt) → pass m K ≡ read v q → isDimension v ≡ t
     go (read a p) q v e = (k a).so p q v e
-    go (bad d) q v e = let z : ◌≡◌ {A = ℕ} 0 1 = cc in absurd (omega arith)
+    go (bad d) q v e = absurd (cc)
 
 shaped-give : {t : Bool} (v : TyAt) → isDimension v ≡ t → Shaped t (give v)
 shaped-give v h = record { so = λ p q w e. let z : v ≡ w = cc in ap isDimension (sym z) ∙ h }
@@ -104,7 +104,7 @@ data Each : List (Char × Rule TyAt) → Type 0 where
   one : {xs : List (Char × Rule TyAt)} (c : Char) (R : Rule TyAt) → Shaped (eqb (code c) 91) R → Each xs → Each ((c, R) ∷ xs)
 
 picked : (b : ℕ) (xs : List (Char × Rule TyAt)) → Each xs → Shaped (eqb b 91) (pick b xs)
-picked b [] none = record { so = λ p q v e. let z : ◌≡◌ {A = ℕ} 0 1 = cc in absurd (omega arith) }
+picked b [] none = record { so = λ p q v e. absurd (cc) }
 picked b (x ∷ xs) (one c R s f) = go (eqb b (code c)) refl (picked b xs f)
   where
     go : (t : Bool) → eqb b (code c) ≡ t → Shaped (eqb b 91) (pick b xs) → Shaped (eqb b 91) (elim t [ true ↦ R | false ↦ pick b xs ])
@@ -121,7 +121,7 @@ types-shape d b =
 -- a type is a dimension where it begins with "["
 type-shape : (d : ℕ) (p q : Place) (v : TyAt) → chosen (deepAt 0) (types (type d)) p ≡ read v q → isDimension v ≡ begins p 91
 unfolding begins
-type-shape d (here c []) q v e = let z : ◌≡◌ {A = ℕ} 0 1 = cc in absurd (omega arith)
+type-shape d (here c []) q v e = absurd (cc)
 type-shape d (here c (b ∷ bs)) q v e = (types-shape d b).so (here c (b ∷ bs)) q v e
 type-shape d beyond q v e = let z : deepAt 0 ≡ v = cc in sym (ap isDimension z)
 
@@ -136,6 +136,6 @@ type-dimension {P} {line} {q} {r} d x = record { within = x.within; onward = x.o
     go (point.At i) point.Deep e n = type-shape d (skip (place_in line i)) _ x.value e
     go point.Deep (point.At j) e n = type-shape d beyond _ x.value e
     go point.Deep point.Deep e n = type-shape d beyond _ x.value e
-    go (point.Bad k) (point.At j) e n = let z : ◌≡◌ {A = ℕ} 0 1 = cc in absurd (omega arith)
-    go (point.Bad k) point.Deep e n = let z : ◌≡◌ {A = ℕ} 0 1 = cc in absurd (omega arith)
+    go (point.Bad k) (point.At j) e n = absurd (cc)
+    go (point.Bad k) point.Deep e n = absurd (cc)
     go q (point.Bad j) e n = absurd n

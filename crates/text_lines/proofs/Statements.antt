@@ -93,10 +93,10 @@ module _ {x y : Lent} (q : Point) {k : ℕ} (hk : k ≡ columnAt q) (n : NotBad 
 product-told : (m : Told (Product ℕ)) (t : Ty ℕ) (s : Sofar) → onward m (λ p. TextReading.give (dim p)) ≡ told t s
     → (p : Product ℕ) × ((m ≡ told p s) × (t ≡ dim p))
 product-told (told p s₁) t s e = let a : dim p ≡ t = cc in let b : s₁ ≡ s = cc in (p, (ap (told p) b, sym a))
-product-told (refusedAt n c) t s e = let w : ◌≡◌ {A = ℕ} 0 1 = cc in absurd (omega arith)
+product-told (refusedAt n c) t s e = absurd (cc)
 
 product-refused : (m : Told (Product ℕ)) (n c : ℕ) → onward m (λ p. TextReading.give (dim p)) ≡ refusedAt n c → m ≡ refusedAt n c
-product-refused (told p s) n c e = let w : ◌≡◌ {A = ℕ} 0 1 = cc in absurd (omega arith)
+product-refused (told p s) n c e = absurd (cc)
 product-refused (refusedAt i j) n c e = let a : i ≡ n = cc in let b : j ≡ c = cc in ap₂ refusedAt a b
 
 product-did : {x y : Lent} {i n i' n' : ℕ} (c : ℕ) (fs : List FactorAt) (e : ℕ) → Did (ty_of (dimAt c fs e)) (Writes writeTy) x y i n i' n'
@@ -162,10 +162,6 @@ nothing-after b c l f g h p =
     ap (λ (R : Rule ConAt). R p) (pick_other b ("~", equalRule c l) ((":", dimRule c l) ∷ afterDimension c l) f
     ∙ pick_other b (":", dimRule c l) (afterDimension c l) g)
     ∙ not-dimension b c l h p
-
-pub says-scalar : (line : Bytes) (q : Point) {b : ℕ} (t : Bool) → b ≡ 61 → t ≡ beginsAt line q 91 → SaysScalar line q b t
-says-scalar line q true e f = (e, f)
-says-scalar line q false e f = λ g. f
 
 -- a byte stands in the line
 byte-stands : (line : Bytes) (e : Point) {b : ℕ} → byte_of line e ≡ b → 0 < b → NotBad e
@@ -363,19 +359,17 @@ quote-past = refl
 
 quote-in : (c : ℕ) (bs : Bytes) (a : Unit {0}) → spell (ascii "\"") (here c bs) ≡ read a beyond → ⊥
 unfolding spell spellFrom
-quote-in c [] a e = let z : ◌≡◌ {A = ℕ} 0 1 = cc in omega arith
+quote-in c [] a e = cc
 quote-in c (b ∷ bs) a e = go (eqb b 34) e
   where
     go : (t : Bool) → ◌≡◌ {A = Parsed (Unit {0})} (elim t [ true ↦ read tt (here (suc c) bs) | false ↦ bad c ]) (read a beyond) → ⊥
-    go true f = let z : ◌≡◌ {A = ℕ} 0 1 = cc in omega arith
-    go false f = let z : ◌≡◌ {A = ℕ} 0 1 = cc in omega arith
+    go true f = cc
+    go false f = cc
 
 pub inside-quote : Inside (spell (ascii "\""))
 inside-quote = record { stays = quote-in }
 
 module _ {line : Bytes} {i : ℕ} where
-  pub end-there : i ≤ length line → length line ≤ i → end_of line (point.At i) (point.At i)
-  end-there k h = record { within = k; onward = omega arith; value = tt; is = rw (drop_of_length-le line {i = i} h); holds = tt }
 
   pub end-other : i < length line → end_of line (point.At i) (point.Bad i)
   end-other h = record { within = tt; onward = omega arith; value = tt; is = rw (drop-cons line i 0 h); holds = tt }
@@ -384,8 +378,8 @@ pub end_read : {line : Bytes} {p e r : Point} → Reads line p column (λ (k : �
 end_read x y = in-turn column (λ c. end_at) x (λ c hc. y)
 
 end-in : (c : ℕ) (bs : Bytes) (a : Unit {0}) → end_at (here c bs) ≡ read a beyond → ⊥
-end-in c [] a e = let z : ◌≡◌ {A = ℕ} 0 1 = cc in omega arith
-end-in c (b ∷ bs) a e = let z : ◌≡◌ {A = ℕ} 0 1 = cc in omega arith
+end-in c [] a e = cc
+end-in c (b ∷ bs) a e = cc
 
 one_told : (c : Con ℕ) (rs : List Rec) → rs ≡ writeCon c → LineTold 1 (c ∷ []) rs
 unfolding collect
@@ -502,12 +496,12 @@ module _ {line : Bytes} {q : Point} {x y : Lent} {n : ℕ} (x1 : Reads line (poi
       dst-long = o.kept.dst-long;
       pool-behind = o.kept.pool-behind;
       table-behind = o.kept.table-behind;
-      refused = λ r c e. let z : ◌≡◌ {A = ℕ} 0 1 = cc in absurd (omega arith);
-      above = λ a b a' b' e f. let z : ◌≡◌ {A = ℕ} 0 1 = cc in absurd (omega arith);
-      room = λ a b f. let z : ◌≡◌ {A = ℕ} 0 1 = cc in absurd (omega arith);
+      refused = λ r c e. absurd (cc);
+      above = λ a b a' b' e f. absurd (cc);
+      room = λ a b f. absurd (cc);
     };
     effect = record {
-      does = λ a b a' b' e f. let z : ◌≡◌ {A = ℕ} 0 1 = cc in absurd (omega arith);
+      does = λ a b a' b' e f. absurd (cc);
       refuses = λ a b c r e f.
           let w = same-refused refl f in
           ap (λ (p : Parsed (Option ConAt)). meant p (sofar x a b)) (whole-line x1 o.reads).is
@@ -519,5 +513,5 @@ module _ {line : Bytes} {q : Point} {x y : Lent} {n : ℕ} (x1 : Reads line (poi
 pub line_refused : {line : Bytes} {x y : Lent} {r : Refusal} {c n : ℕ} (i : ℕ) → y.stand ≡ stand.Refused r c → LineDone line x y n → LineDone line x y i
 line_refused i e o = record {
   kept = o.kept;
-  effect = record { does = λ a b a' b' p q. let z : ◌≡◌ {A = ℕ} 0 1 = cc in absurd (omega arith); refuses = o.effect.refuses };
+  effect = record { does = λ a b a' b' p q. absurd (cc); refuses = o.effect.refuses };
 }

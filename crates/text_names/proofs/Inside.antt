@@ -13,10 +13,10 @@ record In {A : Type 0} (m : Parsed A) : Type 0 where
   stays : (a : A) → m ≡ read a beyond → ⊥
 
 in-here : {A : Type 0} (a : A) (c : ℕ) (bs : Bytes) → In (read a (here c bs))
-in-here a c bs = record { stays = λ b e. let z : ◌≡◌ {A = ℕ} 0 1 = cc in omega arith }
+in-here a c bs = record { stays = λ b e. cc }
 
 in-bad : {A : Type 0} (c : ℕ) → In {A = A} (bad c)
-in-bad c = record { stays = λ b e. let z : ◌≡◌ {A = ℕ} 0 1 = cc in omega arith }
+in-bad c = record { stays = λ b e. cc }
 
 -- a place that stands in the line
 record At (p : Place) : Type 0 where

@@ -78,21 +78,21 @@ module _ (pool table pool' table' : List ℕ) (at k l : ℕ) (room : Room table 
     dst-long = refl;
     pool-behind = t.pool-behind;
     table-behind = t.table-behind;
-    refused = λ r c q. let z : ◌≡◌ {A = ℕ} 0 1 = cc in absurd (omega arith);
+    refused = λ r c q. absurd (cc);
     above = λ i j i' j' p q. above a i j i' j' p q;
     room = roomy a t;
   }
     where
       above : (a : Answer) (i j i' j' : ℕ) → stand.Going k l ≡ stand.Going i j → standAfter at k l a ≡ stand.Going i' j' → j ≤ j'
       above (Ok x) i j i' j' p q = let u = same-going refl p in let v = same-going refl q in omega (arith, u.1, v.1)
-      above (Err why) i j i' j' p q = let z : ◌≡◌ {A = ℕ} 0 1 = cc in absurd (omega arith)
+      above (Err why) i j i' j' p q = absurd (cc)
 
       roomy : (a : Answer) → Entry pool table pool' table' (told a) → (i j : ℕ) → standAfter at k l a ≡ stand.Going i j → Room table' i j
       roomy (Ok x) t i j q =
           let v = same-going refl q in
           let h = t.number x.0 x.1 refl in
           record { names = omega (arith, h.1, room.names, v.0); records = omega (arith, room.records, v.1) }
-      roomy (Err why) t i j q = let z : ◌≡◌ {A = ℕ} 0 1 = cc in absurd (omega arith)
+      roomy (Err why) t i j q = absurd (cc)
 
   module _ (n : Bytes) where
     named-is : (a : Answer) → entered a pool' table' ≡ enterName pool table n

@@ -28,12 +28,6 @@ module _ {s : Stand} (k at : ℕ) where
   pub count_fits : {f n : ℕ} → s ≡ Going f n → n + k ≤ 2048 → Going f (n + k) ≡ countOf k at s
   count_fits {f} {n} e h = rw (e, le-leb (n + k) 2048 h)
 
-  pub count-over : {f n : ℕ} → s ≡ Going f n → 2048 < n + k → Refused TooLarge at ≡ countOf k at s
-  count-over {f} {n} e h = rw (e, lt-leb (n + k) 2048 h)
-
-  pub count-stays : {r : Refusal} {c : ℕ} → s ≡ Refused r c → Refused r c ≡ countOf k at s
-  count-stays e = rw e
-
 module _ (v : View) (s r : Stand) (d : List ℕ) where
   pub head-put : {d' : List ℕ} {k n i m : ℕ} → s ≡ Going k n → r ≡ Going i m → m ≤ 2048 → d' ≡ sets d (n * 4) (words (recOf v (fit (m - n)) ∷ []))
       → d' ≡ headPut v s r d
@@ -41,9 +35,6 @@ module _ (v : View) (s r : Stand) (d : List ℕ) where
 
   pub head-none : {k n c : ℕ} {w : Refusal} → s ≡ Going k n → r ≡ Refused w c → d ≡ headPut v s r d
   head-none e f = rw (e, f)
-
-  pub head-stays : {w : Refusal} {c : ℕ} → s ≡ Refused w c → d ≡ headPut v s r d
-  head-stays e = rw e
 
 -- what was counted lies above
 pub count-above : {s s₁ : Stand} (k at : ℕ) → Few s → s₁ ≡ countOf k at s → Above s s₁

@@ -23,7 +23,7 @@ abbrev pub Refused : Refusal → ℕ → Stand
 Refused r c = Err (record { why = r; at = c })
 
 pub not-both : {s : Stand} {r : Refusal} {c k n : ℕ} → s ≡ Refused r c → s ≡ Going k n → ⊥
-not-both e f = let z : ◌≡◌ {A = ℕ} 0 1 = cc in omega arith
+not-both e f = cc
 
 abbrev pub place_of : Point → ℕ
 place_of (point.At i) = i

@@ -1,7 +1,7 @@
 -- What scanning a line says, by places that count from 0.
 use Rattle.std.specs.Prelude.{◌≡◌, [], Result, Ok, Err, Option, None, Some, length, drop, get_or}
 use Rattle.std.proofs.Math.Option.{none, some}
-use Prim.Native.Nat.{ℕ, suc, ◌-◌, ◌≤◌, ◌<◌}
+use Prim.Native.Nat.{ℕ, suc, ◌≤◌, ◌<◌}
 use Rattle.rules.specs.Names.{Bytes}
 use Rattle.rules.specs.Grammar.{Place, here, Parsed, read, bad, hexOf, whole, more}
 use Rattle.rules.specs.Grammar.{nameFrom, skipFrom}

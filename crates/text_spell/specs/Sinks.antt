@@ -1,5 +1,5 @@
 -- Sinks of bytes: what they hold, what room they have, and what it means that bytes are put.
-use Rattle.std.specs.Prelude.{◌≡◌, ℕ, ◌-◌, ◌<◌, ◌++◌, length, take, drop, Result, OnOk, OnErr}
+use Rattle.std.specs.Prelude.{◌≡◌, ℕ, ◌<◌, ◌++◌, length, take, drop, Result, OnOk, OnErr}
 use Rattle.rules.specs.Names.{Bytes}
 
 -- what a sink holds; its room, that is the bytes that the next ones are written over; and the name of the loan that it is, if it is one

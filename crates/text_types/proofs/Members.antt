@@ -39,8 +39,8 @@ use Rattle.text_types.proofs.Parts.{Behind, halted-kept, head_at, head-by, kept-
 use Rattle.text_types.specs.Members.{nameBefore, Risen, stoppedAt, keptIf, fieldRecs, typed, countedTy, risenTy, fieldStep, FieldTold, FieldDone, FieldsTold}
 
 pub never_on : (r : Refusal) (at : ℕ) (s : Stand) (i n : ℕ) → stoppedAt r at s ≡ stand.Going i n → ⊥
-never_on r at (Ok tally) i n q = let z : ◌≡◌ {A = ℕ} 0 1 = cc in omega arith
-never_on r at (Err stop) i n q = let z : ◌≡◌ {A = ℕ} 0 1 = cc in omega arith
+never_on r at (Ok tally) i n q = cc
+never_on r at (Err stop) i n q = cc
 
 -- only the stand has changed, from what goes on to a refusal
 pub kept_if : {x : Lent} (ok : Bool) (r : Refusal) (at : ℕ) → Kept x x → Kept x (lent x.pool x.table x.dst (keptIf ok r at x.stand))
@@ -63,7 +63,7 @@ kept_if {x} false r at k = record {
 pub halted-if : {q : Point} (ok : Bool) (r : Refusal) (at : ℕ) (s : Stand) → Halted q s → Halted q (keptIf ok r at s)
 halted-if true r at s h = h
 halted-if false r at (Ok tally) h = λ i j e g. h tally.names tally.records e refl
-halted-if false r at (Err stop) h = λ i j e g. let z : ◌≡◌ {A = ℕ} 0 1 = cc in omega arith
+halted-if false r at (Err stop) h = λ i j e g. cc
 
 -- nothing is written
 abbrev pub Nothing : {B : Type 0} → B → List Rec → Type 0
@@ -84,10 +84,10 @@ tested {x} f at true e = record {
         written = refl;
         grown = omega arith;
       };
-  refuses = λ k n c r p q. let z : ◌≡◌ {A = ℕ} 0 1 = cc in absurd (omega arith);
+  refuses = λ k n c r p q. absurd (cc);
 }
 tested {x} f at false e = record {
-  does = λ k n k' n' p q. let o = ap (stoppedAt Malformed at) p in let z : ◌≡◌ {A = ℕ} 0 1 = cc in absurd (omega arith);
+  does = λ k n k' n' p q. let o = ap (stoppedAt Malformed at) p in absurd (cc);
   refuses = λ k n c r p q.
       let o = ap (stoppedAt Malformed at) p in
       let w = same-refused o q in
@@ -108,7 +108,7 @@ name-column {P} {line} {q} {r} x = record { within = x.within; onward = x.onward
     read_is : (m : Parsed Bytes) (c : ℕ) (v : NameAt) (p : Grammar.Place) → pass m (λ n. Grammar.give (record { column = c; bytes = n })) ≡ read v p
         → v.column ≡ c
     read_is (read n o) c v p e = let z : record { column = c; bytes = n } ≡ v = cc in sym (ap (λ (i : NameAt). i.column) z)
-    read_is (bad k) c v p e = let z : ◌≡◌ {A = ℕ} 0 1 = cc in absurd (omega arith)
+    read_is (bad k) c v p e = absurd (cc)
 
     past_is : (v : NameAt) (p : Grammar.Place) → read (record { column = 0; bytes = [] }) Grammar.beyond ≡ read v p → v.column ≡ 0
     past_is v p e = let z : record { column = 0; bytes = [] } ≡ v = cc in sym (ap (λ (i : NameAt). i.column) z)
@@ -118,8 +118,8 @@ name-column {P} {line} {q} {r} x = record { within = x.within; onward = x.onward
     go (point.At i) point.Deep e n = read_is (nameFrom whole (suc i) _) (suc i) x.value _ e
     go point.Deep (point.At j) e n = past_is x.value _ e
     go point.Deep point.Deep e n = past_is x.value _ e
-    go (point.Bad k) (point.At j) e n = let z : ◌≡◌ {A = ℕ} 0 1 = cc in absurd (omega arith)
-    go (point.Bad k) point.Deep e n = let z : ◌≡◌ {A = ℕ} 0 1 = cc in absurd (omega arith)
+    go (point.Bad k) (point.At j) e n = absurd (cc)
+    go (point.Bad k) point.Deep e n = absurd (cc)
     go q (point.Bad j) e n = absurd n
 
 typed-behind : (x : ℕ) (u : Ty ℕ) (rs : List Rec) → rs ≡ writeTy u → recOf (view.Field x) (suc (length rs)) ∷ rs ≡ fieldRecs (x, u)

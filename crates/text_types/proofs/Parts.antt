@@ -60,7 +60,7 @@ halted-kept {q} {x} {y} k h i n e f = go x.stand refl
   where
     go : (s : Stand) → x.stand ≡ s → ⊥
     go (Ok tally) p = h tally.names tally.records e p
-    go (Err stop) p = let o = k.refused stop.why stop.at p in let z : ◌≡◌ {A = ℕ} 0 1 = cc in omega arith
+    go (Err stop) p = let o = k.refused stop.why stop.at p in cc
 
 -- from where a record was counted
 pub from-counted : {A B : Type 0} {R : Rule A} {f : A → Step B} {T : B → List Rec

@@ -181,9 +181,9 @@ none-effect m point.Deep h n = record { does = λ k l k' l' p q. absurd (h k l r
 none-effect m (point.Bad i) h n = absurd n
 
 pub none-halted : {s : Stand} (q : Point) → Halted q s → Halted (refusedFrom q) s
-none-halted (point.At i) h = λ k n e f. let z : ◌≡◌ {A = ℕ} 0 1 = cc in omega arith
+none-halted (point.At i) h = λ k n e f. cc
 none-halted point.Deep h = h
-none-halted (point.Bad i) h = λ k n e f. let z : ◌≡◌ {A = ℕ} 0 1 = cc in omega arith
+none-halted (point.Bad i) h = λ k n e f. cc
 
 module _ {T : Ty ℕ → List Rec → Type 0} {line : Bytes} {q : Point} {x : Lent} (h : Ready line q x.pool x.table x.stand) where
   pub no-type : (d : ℕ) → among (byte_of line q) heads ≡ false → Done line (ruled d) ty_of T q x (refusedFrom q) x

@@ -79,7 +79,7 @@ rest-distinct n ns h = and_right (not (Among n ns)) _ h
 
 one-fewer : (m : Bytes) (ns : List Bytes) → distinct ns ≡ true → Among m ns ≡ true → length ns ≡ suc (length (without m ns))
 unfolding any keep
-one-fewer m [] d h = absurd (let z : ◌≡◌ {A = ℕ} 0 1 = cc in omega arith)
+one-fewer m [] d h = absurd (cc)
 one-fewer m (n ∷ ns) d h = go (sameBytes m n) refl h (one-fewer m ns (rest-distinct n ns d))
   where
     go : (b : Bool) → sameBytes m n ≡ b → (sameBytes m n || Among m ns) ≡ true → (Among m ns ≡ true → length ns ≡ suc (length (without m ns)))

@@ -1,7 +1,7 @@
 -- What a product comes to under a choice, one parameter or base dimension at a time: a worth.
 use Rattle.std.proofs.Math.Path.{◌≡◌, refl, ap, ap₂, sym}
-use Rattle.std.proofs.Common.{◌∙◌, arith, leb-true, le-leb, eqb-true, eq-eqb}
-use Rattle.std.specs.Prelude.{Bool, ℕ, leb, nat_abs}
+use Rattle.std.proofs.Common.{◌∙◌, leb-true, le-leb, eqb-true, eq-eqb}
+use Rattle.std.specs.Prelude.{Bool, leb, nat_abs}
 use Rattle.std.proofs.Math.Bool.{true, false}
 use Rattle.std.proofs.Math.Option.{Option, none, some}
 use mathlib.Core.List.{[], ◌∷◌, ◌++◌}
@@ -194,19 +194,19 @@ module _ {N : Type 0} (ν : Names N) (law : Lawful ν.order) (c : Choice N) wher
   own_power (base n) u e = let z : baseDimension n ≡ u = cc in rw (sym z) (itself (baseDimension n))
 
   unordered : (x y : N) → ν.order x y ≡ Ordering.lt → ¬ (x ≡ y)
-  unordered x y o e = let i : ν.order x y ≡ Ordering.eq = rw (sym e) (self law x) in let z : ◌≡◌ {A = ℕ} 0 1 = cc in omega arith
+  unordered x y o e = let i : ν.order x y ≡ Ordering.eq = rw (sym e) (self law x) in cc
 
   -- behind an atom that is no variable there are none, and none of its name
   later-power : (a b : Atom N) (u : Fixed N) → fixed_of a ≡ some u → orderAtom ν a b ≡ Ordering.lt → measured ν.same c u b ≡ nought
   unfolding chosenFor orderAtom orderOpen
   later-power (free (var x)) b u e o = absurd (some≢none (sym e))
   later-power (free (quant i)) b u e o = absurd (some≢none (sym e))
-  later-power (free (par x)) (free (var y)) u e o = let z : ◌≡◌ {A = ℕ} 0 1 = cc in absurd (omega arith)
-  later-power (free (par x)) (free (quant j)) u e o = let z : ◌≡◌ {A = ℕ} 0 1 = cc in absurd (omega arith)
+  later-power (free (par x)) (free (var y)) u e o = absurd (cc)
+  later-power (free (par x)) (free (quant j)) u e o = absurd (cc)
   later-power (free (par x)) (free (par y)) u e o = let z : parameter x ≡ u = cc in rw (sym z) (other (parameter x) (parameter y) (λ i. unordered x y o (cc)))
   later-power (free (par x)) (base m) u e o = let z : parameter x ≡ u = cc
-      in rw (sym z) (other (parameter x) (baseDimension m) (λ i. let y : ◌≡◌ {A = ℕ} 0 1 = cc in omega arith))
-  later-power (base n) (free p) u e o = let z : ◌≡◌ {A = ℕ} 0 1 = cc in absurd (omega arith)
+      in rw (sym z) (other (parameter x) (baseDimension m) (λ i. cc))
+  later-power (base n) (free p) u e o = absurd (cc)
   later-power (base n) (base m) u e o = let z : baseDimension n ≡ u = cc in rw (sym z) (other (baseDimension n) (baseDimension m) (λ i. unordered n m o (cc)))
 
   later-worth : (Held : Atom N → Type 0) (a : Atom N) (u : Fixed N) (p : Product N) → fixed_of a ≡ some u → Before ν a p → Every (Sound Held) p

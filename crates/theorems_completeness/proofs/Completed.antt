@@ -17,8 +17,6 @@ use Rattle.laws.proofs.GoodProducts.{good-proper}
 use Rattle.theorems_completeness.specs.Claims.{◌⇔◌}
 use Rattle.theorems_completeness.proofs.Chosen.{Reduced, measured, good-worth, all-reduced, reduced-all, comes-reduced}
 use Rattle.std.proofs.Math.Path.{ap₂}
-use Rattle.std.proofs.Common.{arith}
-use Rattle.std.specs.Prelude.{ℕ}
 use Rattle.rules.specs.Base.{collect}
 use Rattle.rules.specs.Exponents.{Exp, plus, mul}
 use Rattle.rules.specs.Trees.{quant, par, Atom, base, ◌↑◌}
@@ -48,7 +46,7 @@ module _ {N : Type 0} (same : Discrete N) (c d : Choice N) (u : Fixed N) where
   worth-same (free o ↑ e ∷ p) h = ap₂ (λ (y z : Exp). plus (mul y e) z)
       (measured-same (free o) (λ x i. h x (let j : o ≡ var x = cc in rw j in_head))) (worth-same p (λ x m. h x (Memᴰ.tail m)))
   worth-same (base n ↑ e ∷ p) h = ap₂ (λ (y z : Exp). plus (mul y e) z)
-      (measured-same (base n) (λ x i. let z : ◌≡◌ {A = ℕ} 0 1 = cc in absurd (omega arith))) (worth-same p h)
+      (measured-same (base n) (λ x i. absurd (cc))) (worth-same p h)
 
 -- ══ What a side comes to ══
 

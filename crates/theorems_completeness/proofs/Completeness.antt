@@ -4,7 +4,6 @@
 use Rattle.std.specs.Prelude.{◌≡◌, Bool, true, ◌⊎◌, ℕ}
 use mathlib.Core.List.{List, []}
 use Rattle.std.proofs.Math.Path.{refl}
-use Rattle.std.proofs.Common.{arith}
 use Rattle.rules.specs.Base.{got, bounded, all}
 use Rattle.rules.specs.Trees.{Names, Con, Binding}
 use Rattle.rules.specs.Names.{table_of, numbersOf}
@@ -48,7 +47,7 @@ module _ (pool table set result work : List ℕ) (cs : List (Con ℕ)) (read : s
   -- a set of dimension lines that is refused with 5 can't be saved by any assignment
   pub refused-then-none : (records rounds : ℕ) → (solveCall pool table set result work).answer ≡ unsolved records rounds
       → Choosing (numbersOf (table_of pool table)).same cs → ⊥
-  refused-then-none r k e = ((call-complete pool table set result work cs read dims).five (λ n j i h. let z : ◌≡◌ {A = ℕ} 0 1 = cc in omega arith)).0 (rw e tt)
+  refused-then-none r k e = ((call-complete pool table set result work cs read dims).five (λ n j i h. cc)).0 (rw e tt)
 
 -- ══ Wide sets: sides may be variables, and is-dimension may stand in them ══
 
@@ -84,7 +83,7 @@ pub conflict : (pool table part result work : List ℕ) (ds : List (Con ℕ)) �
     → (records rounds : ℕ) → (solveCall pool table part result work).answer ≡ unsolved records rounds
     → (cs : List (Con ℕ)) → Within ds cs → (c : Choice ℕ) → Rational c → MakesWideOnesTrue (numbersOf (table_of pool table)).same c cs → ⊥
 conflict pool table part result work ds read sides r k e cs within c rational makes =
-    ((wide-complete pool table part result work ds read sides).five (λ n j i h. let z : ◌≡◌ {A = ℕ} 0 1 = cc in omega arith)).0 (rw e tt)
+    ((wide-complete pool table part result work ds read sides).five (λ n j i h. cc)).0 (rw e tt)
     (narrowed (numbersOf (table_of pool table)).same cs ds within sides c rational makes)
 
 module _ {N : Type 0} (ν : Names N) (held : N → Bool) (lawful : Lawful ν.order) (tells : Tells (λ n. held n ≡ true) ν.order) where

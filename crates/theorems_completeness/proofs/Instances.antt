@@ -156,7 +156,7 @@ choices-differ = (refl, refl)
 pub not-any : MakesAllTrue same y-is-L open-two → ⊥
 unfolding rules pool table power scaled chosenFor comesTo MakesTrue y-is-L
 not-any f = let e : one ≡ nought = f (is_scalar (free (var x) ↑ one ∷ free (var y) ↑ one ∷ free (var z) ↑ one ∷ [])) in_head (baseDimension L)
-    in let i : ◌≡◌ {A = ℕ} 0 1 = cc in omega arith
+    in cc
 
 -- ══ K5, equal-scalar x^2 L^-3: x is L^(3/2), and whole powers alone wouldn't do ══
 
@@ -199,7 +199,7 @@ whole-none c r w f =
     (told k5 k5-bindings 1 k5-given k5-solved).bound-so c r f x (base L ↑ frac (pos 3) 2 ∷ []) in_head (baseDimension L) in
     let n = whole-power (baseDimension L) (c x) (w x) in
     let i : frac n.0 1 ≡ frac (pos 3) 2 = sym n.1 ∙ e in
-    let j : ◌≡◌ {A = ℕ} 1 2 = cc in omega arith
+    cc
 
 -- ══ K14, equal-scalar x^(1/2) y^2147483647: 7, though there is a choice ══
 
@@ -248,7 +248,7 @@ k9-none d = d.makes (equal (dim (free (var x) ↑ one ∷ [])) (basic boolean)) 
 
 -- 'equal-scalar or an equality of two dimensions' can't be left out
 pub dimensions-needed : ¬ (Complete pool table k9-words result work k9)
-dimensions-needed claim = ((rw k9-answer at claim.five) (λ n k e i. let j : ◌≡◌ {A = ℕ} 0 1 = cc in omega arith)).1 k9-none
+dimensions-needed claim = ((rw k9-answer at claim.five) (λ n k e i. cc)).1 k9-none
 
 -- nor can 'wide' be
 k9-none-wide : ChoosingWide same k9 → ⊥
@@ -256,7 +256,7 @@ unfolding MakesWideTrue sideComesTo
 k9-none-wide d = d.makes (equal (dim (free (var x) ↑ one ∷ [])) (basic boolean)) in_head
 
 pub wide-needed : ¬ (WideComplete pool table k9-words result work k9)
-wide-needed claim = ((rw k9-answer at claim.five) (λ n k e i. let j : ◌≡◌ {A = ℕ} 0 1 = cc in omega arith)).1 k9-none-wide
+wide-needed claim = ((rw k9-answer at claim.five) (λ n k e i. cc)).1 k9-none-wide
 
 -- ══ A sheet: x is a dimension, y ~ x, x ~ [L] ══
 

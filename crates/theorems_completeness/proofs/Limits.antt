@@ -7,8 +7,8 @@ use mathlib.Core.List.Memᴰ
 use mathlib.Core.List.{List, [], ◌∷◌}
 use Rattle.rules.specs.Base.{Got, got, refused, bounded, each}
 use Rattle.rules.specs.Exponents.{Exp, neg, inverted, times, timesInverse, quotient}
-use Rattle.rules.specs.Trees.{Open, var, quant, par, free, base, Factor, ◌↑◌, Product, Names, dim, Con, is_scalar, ◌≔◌, orderAtom}
-use Rattle.rules.specs.Replacing.{Look, asProduct, replaceFactors, replaceProduct, replaceDim, bindings}
+use Rattle.rules.specs.Trees.{var, quant, par, free, base, Factor, ◌↑◌, Product, Names, dim, Con, is_scalar, ◌≔◌, orderAtom}
+use Rattle.rules.specs.Replacing.{Look, asProduct, replaceFactors, replaceProduct, bindings}
 use Rattle.rules.specs.Rounds.{Step, bind, split, done, stuck, State, orTry, otherSide, trySatisfy, taken, firstStep, sizeState, depthState, limited}
 use Rattle.laws.specs.Order.{Lawful, Tells}
 use Rattle.laws.specs.Lists.{All, in_head}
@@ -61,11 +61,6 @@ module _ {N : Type 0} (ν : Names N) (x : N) (d : Product N) where
   pub product-limited : (p : Product N) → Limited (replaceProduct ν bounded look p)
   unfolding replaceProduct
   product-limited p = factors-limited p p
-
-  dim-limited : (s : Option (Open N)) (p : Product N) → Limited (replaceDim ν bounded look s p)
-  unfolding replaceDim
-  dim-limited none p = onward (product-limited p) (λ q i. fine)
-  dim-limited (some o) p = fine
 
 -- ══ The rules ══
 

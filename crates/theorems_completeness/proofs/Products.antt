@@ -24,7 +24,6 @@ use Rattle.laws.proofs.Ranges.{stored-good, good-lowest}
 use Rattle.laws.proofs.Occurs.{one-bound}
 use Rattle.theorems_completeness.specs.Claims.{◌⇔◌}
 use Rattle.theorems_completeness.proofs.Worth.{same-difference, no_difference, worth, worth-lowest, worth-merge, worth-raise, worth-inverse}
-use Rattle.std.specs.Prelude.{ℕ}
 use Prim.Native.Nat.{Ordering}
 use Rattle.rules.specs.Base.{each}
 use Rattle.rules.specs.Exponents.{inverted}
@@ -122,7 +121,7 @@ module _ {N : Type 0} (ν : Names N) (law : Lawful (orderAtom ν)) where
   pub alone : (x : N) (f : Factor N) → orderAtom ν (free (var x)) (atomOf f) ≡ Ordering.lt → OnFactor (λ o. o ≡ var x → ⊥) f
   alone x (base n ↑ e) h = tt
   alone x (free o ↑ e) h = λ i. let j : orderAtom ν (free (var x)) (free o) ≡ Ordering.eq = rw i (self law (free (var x)))
-      in let z : ◌≡◌ {A = ℕ} 0 1 = cc in omega arith
+      in cc
 
 -- ══ An equal-scalar, and what its first variable is bound to ══
 

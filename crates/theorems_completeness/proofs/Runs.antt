@@ -68,9 +68,9 @@ module _ {N : Type 0} (ν : Names N) where
   taken_none : (s : Step N) (c : Con N) (cs : List (Con N)) → taken s c cs (λ _. firstStep ν bounded cs) ≡ got none
       → (s ≡ stuck) × (firstStep ν bounded cs ≡ got none)
   unfolding taken
-  taken_none (bind x t) c cs e = let z : ◌≡◌ {A = ℕ} 0 1 = cc in absurd (omega arith)
-  taken_none (split new) c cs e = let z : ◌≡◌ {A = ℕ} 0 1 = cc in absurd (omega arith)
-  taken_none done c cs e = let z : ◌≡◌ {A = ℕ} 0 1 = cc in absurd (omega arith)
+  taken_none (bind x t) c cs e = absurd (cc)
+  taken_none (split new) c cs e = absurd (cc)
+  taken_none done c cs e = absurd (cc)
   taken_none stuck c cs e = let o = one-step (firstStep ν bounded cs) (λ r. and_then r (λ v. some (v.0, c ∷ v.1))) none e
       in (refl, o.gave ∙ ap got (go o.value o.is))
     where
@@ -109,13 +109,13 @@ module _ {N : Type 0} (ν : Names N) where
       let a = and-then x _ stuck e in
       let o = only-if (not (contains ν a.0 t)) (bind a.0 t) stuck a.2 in
       let i : bind a.0 t ≡ stuck = o.1 in
-      let z : ◌≡◌ {A = ℕ} 0 1 = cc in omega arith
+      cc
 
   pub first-moves : (s t : Ty N) → Moving (firstRules ν s t)
   unfolding firstRules Moving
   first-moves s t =
       or-moving (only_if (is_yes (ty-dec ν s t)) done) _
-      (λ e. let o = only-if (is_yes (ty-dec ν s t)) done stuck e in let i : done ≡ stuck = o.1 in let z : ◌≡◌ {A = ℕ} 0 1 = cc in omega arith)
+      (λ e. let o = only-if (is_yes (ty-dec ν s t)) done stuck e in let i : done ≡ stuck = o.1 in cc)
       (or-moving (bindTo ν (asVar s) t) _ (binding-moves (asVar s) t)
       (or-moving (bindTo ν (asVar t) s) _ (binding-moves (asVar t) s)
       (or-moving (bindTo ν (asPower s) t) (bindTo ν (asPower t) s) (binding-moves (asPower s) t) (binding-moves (asPower t) s))))
@@ -130,7 +130,7 @@ module _ {N : Type 0} (ν : Names N) where
       go none f i =
           let o = one-step (divide ν bounded p q) (λ r. split (is_scalar r ∷ [])) stuck i in
           let j : split (is_scalar o.value ∷ []) ≡ stuck = o.is in
-          let z : ◌≡◌ {A = ℕ} 0 1 = cc in omega arith
+          cc
 
 -- what is left over: a product whose first factor is a parameter or a base dimension
 module _ {N : Type 0} (ν : Names N) (held : N → Bool) (ord : Lawful ν.order) where
@@ -150,11 +150,11 @@ module _ {N : Type 0} (ν : Names N) (held : N → Bool) (ord : Lawful ν.order)
 
   pub scalar-stuck : (c : Choice N) (p : Product N) → Good ν held p → trySatisfy ν bounded (is_scalar p) ≡ got stuck → AllPowers c (is_scalar p) → ⊥
   unfolding trySatisfy goodOpen
-  scalar-stuck c [] h e f = let z : ◌≡◌ {A = ℕ} 0 1 = cc in omega arith
+  scalar-stuck c [] h e f = cc
   scalar-stuck c (free (var x) ↑ k ∷ p) h e f =
       let o = one-step (each (otherSide bounded k) p) (λ q. bind x (dim q)) stuck e in
       let j : bind x (dim o.value) ≡ stuck = o.is in
-      let z : ◌≡◌ {A = ℕ} 0 1 = cc in omega arith
+      cc
   scalar-stuck c (free (quant i) ↑ k ∷ p) h e f = omega (arith, ltb-true i 0 (good-product ν atoms held 0 (free (quant i) ↑ k ∷ p) h).each.0.0)
   scalar-stuck c (free (par x) ↑ k ∷ p) h e f = fixed-first c (free (par x)) _ k p refl h (f _)
   scalar-stuck c (base n ↑ k ∷ p) h e f = fixed-first c (base n) _ k p refl h (f _)
@@ -180,11 +180,11 @@ module _ {N : Type 0} (ν : Names N) where
   -- what the rules behind the first three do with a variable
   left-moves : (x : N) (q : Product N) → by_kind ν bounded (opened (var x)) (dim q) ≡ got stuck → ⊥
   unfolding by_kind variableLeft asProducts
-  left-moves x q e = let z : ◌≡◌ {A = ℕ} 0 1 = cc in omega arith
+  left-moves x q e = cc
 
   right-moves : (p : Product N) (y : N) → by_kind ν bounded (dim p) (opened (var y)) ≡ got stuck → ⊥
   unfolding by_kind dimensions asProducts
-  right-moves p y e = let z : ◌≡◌ {A = ℕ} 0 1 = cc in omega arith
+  right-moves p y e = cc
 
   orTry-moves : (s t : Ty N) → (firstRules ν s t ≡ none → by_kind ν bounded s t ≡ got stuck → ⊥) → trySatisfy ν bounded (equal s t) ≡ got stuck → ⊥
   unfolding trySatisfy Moving
@@ -205,7 +205,7 @@ module _ {N : Type 0} (ν : Names N) where
     -- is-dimension of a dimension is never stuck, that of a variable becomes a bound
     dimension-moves : (t : Ty N) → Sided ν held w t → trySatisfy ν bounded (isDim t) ≡ got stuck → is_none (boundOf (isDim t)) ≡ true → ⊥
     unfolding trySatisfy dimensionParts boundOf
-    dimension-moves t (a-product p h i) e n = let j = rw i at e in let z : ◌≡◌ {A = ℕ} 0 1 = cc in omega arith
+    dimension-moves t (a-product p h i) e n = let j = rw i at e in cc
     dimension-moves t (a-variable y v h i) e n = true≢false (sym (rw i at n))
 
 -- ══ What is kept ══

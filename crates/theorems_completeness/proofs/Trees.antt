@@ -1,7 +1,7 @@
 -- The theorems for trees, of wide sets and of sets of dimensions: from how a run ends to choices.
 use Rattle.std.specs.Prelude.{◌≡◌, Bool, true, false, ℕ}
 use Rattle.std.proofs.Math.Path.{refl, fun_ext}
-use Rattle.std.proofs.Common.{◌∙◌, ap, sym, subst, arith}
+use Rattle.std.proofs.Common.{◌∙◌, ap, sym, subst}
 use Rattle.std.proofs.Math.Option.{some}
 use mathlib.Core.List.Memᴰ
 use mathlib.Core.List.{List, [], ◌∷◌, Memᴰ}
@@ -81,16 +81,16 @@ module _ {N : Type 0} (ν : Names N) (held : N → Bool) (w : Bool) (ord : Lawfu
     where
       go : Outcome ν held w ord apart start (solve ν bounded cs) → OfLimits n
       go (limits m j h i) = subst OfLimits (cc) h
-      go (refuted rs j i f) = let z : ◌≡◌ {A = ℕ} 0 1 = cc in absurd (omega arith)
-      go (settled s ns j i h t f) = let z : ◌≡◌ {A = ℕ} 0 1 = cc in absurd (omega arith)
+      go (refuted rs j i f) = absurd (cc)
+      go (settled s ns j i h t f) = absurd (cc)
 
   pub none_left : (rs : List (Con N)) (k : ℕ) → solve ν bounded cs ≡ remaining rs k → ChoosingWide same cs → ⊥
   none_left rs k e d = go answers
     where
       go : Outcome ν held w ord apart start (solve ν bounded cs) → ⊥
-      go (limits m j h i) = let z : ◌≡◌ {A = ℕ} 0 1 = cc in omega arith
+      go (limits m j h i) = cc
       go (refuted qs j i f) = f d.choice d.rational (start_right d.choice d.rational d.makes)
-      go (settled s ns j i h t f) = let z : ◌≡◌ {A = ℕ} 0 1 = cc in omega arith
+      go (settled s ns j i h t f) = cc
 
   -- ══ The state in which a run that accepts ended ══
 
@@ -133,8 +133,8 @@ module _ {N : Type 0} (ν : Names N) (held : N → Bool) (w : Bool) (ord : Lawfu
   ended bs ns k e = go answers
     where
       go : Outcome ν held w ord apart start (solve ν bounded cs) → Settled bs
-      go (limits m j h i) = let z : ◌≡◌ {A = ℕ} 0 1 = cc in absurd (omega arith)
-      go (refuted rs j i f) = let z : ◌≡◌ {A = ℕ} 0 1 = cc in absurd (omega arith)
+      go (limits m j h i) = absurd (cc)
+      go (refuted rs j i f) = absurd (cc)
       go (settled s ms j i h t f) = let z : s.binds ≡ bs = cc in subst Settled z (record { choices = end-choices s h t f; sided = h.binds-sided })
 
   pub all-choices : (bs : List (Binding N)) (ns : List N) (k : ℕ) → solve ν bounded cs ≡ accepted bs ns k → AllWideChoices ν cs bs

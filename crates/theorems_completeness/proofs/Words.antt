@@ -1,7 +1,7 @@
 -- The theorems for the call on words: a set that is solved has passed the checks at entry.
 use Rattle.std.proofs.Math.Path.{◌≡◌, refl, ap, sym, subst}
 use Rattle.std.proofs.Common.{◌∙◌, inl, arith}
-use Rattle.std.specs.Prelude.{Bool, false, ◌&&◌, List, ℕ, ◌≤◌}
+use Rattle.std.specs.Prelude.{Bool, ◌&&◌, List, ℕ, ◌≤◌}
 use Rattle.std.proofs.Math.Bool.{true}
 use Rattle.std.proofs.Math.Logic.{inr}
 use borrow.Author.Tests.{leb-true}
@@ -35,7 +35,7 @@ use Rattle.laws.specs.Order.{Lawful, Tells}
 use Rattle.laws.proofs.Checks.{need-passed}
 use Rattle.laws.specs.Given.{held-apart}
 use Rattle.laws.proofs.Given.{lent-long, set-read}
-use Rattle.laws.proofs.Refusing.{Refuses, given as fine, refusing, onward}
+use Rattle.laws.proofs.Refusing.{Refuses, given as fine, needs, onward}
 use Rattle.laws.specs.Exact.{OfLimits}
 use Rattle.laws.specs.ByteOrder.{numbered-lawful}
 use Rattle.laws.specs.Lists.{and_left}
@@ -54,10 +54,6 @@ use Rattle.theorems_completeness.proofs.Trees.{
 }
 
 -- ══ The checks at entry ══
-
-need-refuses : (P : ℕ → Type 0) (b : Bool) (n : ℕ) → P n → Refuses P (need b n)
-need-refuses P true n h = fine
-need-refuses P false n h = refusing h
 
 -- what the checks at entry say of a set that is solved
 pub record Checked (pool table set : List ℕ) (cs : List (Con ℕ)) : Type 0 where
@@ -91,9 +87,9 @@ module _ (pool table set : List ℕ) (cs : List (Con ℕ)) (read : setGiven (tab
     lent-refuses : Refuses Excepted (lent pool table result work)
     unfolding lent lentTable lentResult lentWork
     lent-refuses =
-        onward (onward (need-refuses Excepted (leb 8192 (length pool) && leb 257 (length table)) 10 ten)
-        (λ u e. need-refuses Excepted (leb 8192 (length result)) 10 ten))
-        (λ u e. need-refuses Excepted (leb 16384 (length work)) 10 ten)
+        onward (onward (needs (leb 8192 (length pool) && leb 257 (length table)) 10 ten)
+        (λ u e. needs (leb 8192 (length result)) 10 ten))
+        (λ u e. needs (leb 16384 (length work)) 10 ten)
       where
         ten : Excepted 10
         ten = inr (inr (inr (inr refl)))
@@ -101,10 +97,10 @@ module _ (pool table set : List ℕ) (cs : List (Con ℕ)) (read : setGiven (tab
     set-refuses : Refuses Excepted (solvedSet t set)
     unfolding solvedSet shortLists tableKept apart all
     set-refuses =
-        onward (need-refuses Excepted (leb (length set) 8192 && true) 8 (inr (inr (inr (inl refl))))) (λ u e.
-        onward (need-refuses Excepted (tableGood t) 1 (inl refl)) (λ u e.
+        onward (needs (leb (length set) 8192 && true) 8 (inr (inr (inr (inl refl))))) (λ u e.
+        onward (needs (tableGood t) 1 (inl refl)) (λ u e.
         onward (record { only = λ n e. absurd (got≢refused (sym read ∙ e)) }) (λ ds e.
-        onward (need-refuses Excepted (unmixed ν (collect opensCon ds)) 4 (inr (inl refl))) (λ u e. fine))))
+        onward (needs (unmixed ν (collect opensCon ds)) 4 (inr (inl refl))) (λ u e. fine))))
 
     call-refuses : Refuses Excepted call
     call-refuses = onward lent-refuses (λ u e. set-refuses)
@@ -154,8 +150,8 @@ module _ (pool table set : List ℕ) (cs : List (Con ℕ)) (read : setGiven (tab
         where
           go : (m : Got (Answer ℕ)) → call ≡ m → solvedOf m ≡ refusedAfter n k → Excepted n
           go (refused j) i h = subst Excepted (cc) (call-refuses.only j i)
-          go (got (accepted bs ns j)) i h = let z : ◌≡◌ {A = ℕ} 0 1 = cc in absurd (omega arith)
-          go (got (remaining rs j)) i h = let z : ◌≡◌ {A = ℕ} 0 1 = cc in absurd (omega arith)
+          go (got (accepted bs ns j)) i h = absurd (cc)
+          go (got (remaining rs j)) i h = absurd (cc)
           go (got (stopped m j)) i h = subst Excepted (cc) (stopped-excepted m j i)
 
       pub five : ((n k : ℕ) → (solveCall pool table set result work).answer ≡ refusedAfter n k → Excepted n → ⊥)
@@ -176,10 +172,9 @@ module _ (pool table set : List ℕ) (cs : List (Con ℕ)) (read : setGiven (tab
       accepts r b k e = go call refl
         where
           go : (m : Got (Answer ℕ)) → call ≡ m → Told pool table set result work All r b
-          go (refused n) i = let z : refusedAfter n 0 ≡ solved r b k = rw i at e in let y : ◌≡◌ {A = ℕ} 0 1 = cc in absurd (omega arith)
-          go (got (remaining rs j)) i = let z : unsolved (sum_of sizeCon rs) j ≡ solved r b k = rw i at e in let y : ◌≡◌ {A = ℕ} 0 1 = cc
-              in absurd (omega arith)
-          go (got (stopped n j)) i = let z : refusedAfter n j ≡ solved r b k = rw i at e in let y : ◌≡◌ {A = ℕ} 0 1 = cc in absurd (omega arith)
+          go (refused n) i = let z : refusedAfter n 0 ≡ solved r b k = rw i at e in absurd (cc)
+          go (got (remaining rs j)) i = let z : unsolved (sum_of sizeCon rs) j ≡ solved r b k = rw i at e in absurd (cc)
+          go (got (stopped n j)) i = let z : refusedAfter n j ≡ solved r b k = rw i at e in absurd (cc)
           go (got (accepted bs ns j)) i =
               let z : solved (sum_of sizeBinding bs) (length ns) j ≡ solved r b k = rw i at e in
               let p = passed (accepted bs ns j) i in

@@ -1,6 +1,6 @@
 -- Types whose products are in order and of whose open names P holds.
 use Rattle.std.specs.Prelude.{◌≡◌, Bool, true, false, ◌&&◌, ℕ}
-use Rattle.std.proofs.Common.{sym, ap, ◌∙◌, arith}
+use Rattle.std.proofs.Common.{sym, ap, ◌∙◌}
 use mathlib.Core.List.{[], ◌∷◌, map}
 use Prim.Native.Nat.{Ordering}
 use Rattle.rules.specs.Base.{all, collect}
@@ -123,7 +123,7 @@ pub behind : {N : Type 0} (ν : Names N) (law : Lawful (orderAtom ν)) (x : N) (
 behind ν law x p h = every-as (λ f i z. itself (ap (orderAtom ν (free (var x))) z ∙ i)) p h
   where
     itself : orderAtom ν (free (var x)) (free (var x)) ≡ Ordering.lt → ⊥
-    itself h = let w : Ordering.eq ≡ Ordering.lt = sym (self law (free (var x))) ∙ h in let y : ◌≡◌ {A = ℕ} 0 1 = cc in omega arith
+    itself h = let w : Ordering.eq ≡ Ordering.lt = sym (self law (free (var x))) ∙ h in cc
 
 pub apart-atoms : {N : Type 0} {P Q : Open N → Type 0} (x : N) → ((o : Open N) → P o → (var x ≡ o → ⊥) → Q o) → (p : Product N) → Atoms (Named P) p
     → Atoms (Apart x) p → Atoms (Named Q) p

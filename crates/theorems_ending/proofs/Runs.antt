@@ -86,13 +86,13 @@ module _ {N : Type 0} (ν : Names N) (law : Lawful (orderAtom ν)) where
   unfolding finished
   finished-ended m k [] s = record {
     rounds = omega arith;
-    fuelled = λ n q. let z : ◌≡◌ {A = ℕ} 0 1 = cc in omega arith;
+    fuelled = λ n q. cc;
     bound = λ bs ns n q. let z : bs ≡ s.binds = cc in ap length z;
   }
   finished-ended m k (c ∷ cs) s = record {
     rounds = omega arith;
-    fuelled = λ n q. let z : ◌≡◌ {A = ℕ} 0 1 = cc in omega arith;
-    bound = λ bs ns n q. let z : ◌≡◌ {A = ℕ} 0 1 = cc in absurd (omega arith);
+    fuelled = λ n q. cc;
+    bound = λ bs ns n q. absurd (cc);
   }
 
   -- with fuel above the measure
@@ -111,7 +111,7 @@ module _ {N : Type 0} (ν : Names N) (law : Lawful (orderAtom ν)) where
       go (refuses n p e) r = rw e record {
         rounds = omega arith;
         fuelled = λ m q. let z : n ≡ 0 = cc in omega arith;
-        bound = λ bs ns m q. let z : ◌≡◌ {A = ℕ} 0 1 = cc in absurd (omega arith);
+        bound = λ bs ns m q. absurd (cc);
       }
       go (ends e) r = rw e (let c = finished-ended (measure xs s) k _ s in record {
         rounds = c.rounds;

@@ -63,7 +63,7 @@ use Rattle.rules.specs.Elimination.{
 use Rattle.theorems_engine.specs.Claims.{Agree, Unfit, Alike, refuse-alike, accept-alike, remain-alike}
 use Rattle.theorems_engine.proofs.Runs.{answered}
 use Rattle.theorems_engine.proofs.Laid.{as-solved}
-use Rattle.laws.proofs.Refusing.{Refuses, given, next, refusing}
+use Rattle.laws.proofs.Refusing.{Refuses, given, needs, next, refusing}
 use Rattle.engine_matrix.proofs.Sevens.{Seven, eliminated-seven}
 
 -- ══ What the checks at entry say ══
@@ -194,10 +194,6 @@ fitting-refuses ν cs n e = go (each scalarOf cs) refl
 abbrev Known : ℕ → Type 0
 Known n = (n ≡ 10) ⊎ ((n ≡ 1) ⊎ ((n ≡ 4) ⊎ ((n ≡ 8) ⊎ (n ≡ 7))))
 
-need-refuses : (b : Bool) (n : ℕ) → Known n → Refuses Known (need b n)
-need-refuses true n h = given
-need-refuses false n h = refusing h
-
 or-refuses : {A : Type 0} (n : ℕ) (o : Option A) → Known n → Refuses Known (orRefuse n o)
 or-refuses n none h = refusing h
 or-refuses n (some a) h = given
@@ -205,8 +201,8 @@ or-refuses n (some a) h = given
 refusal-only : (j n k : ℕ) (m : Got (Settled ℕ)) → Seven m → solvedOf (got (answered j m)) ≡ refusedAfter n k → n ≡ 7
 unfolding solvedOf answered
 refusal-only j n k (refused i) h e = (cc) ∙ h.only i refl
-refusal-only j n k (got (settled bs)) h e = let z : ◌≡◌ {A = ℕ} 0 1 = cc in absurd (omega arith)
-refusal-only j n k (got (unsettled cs)) h e = let z : ◌≡◌ {A = ℕ} 0 1 = cc in absurd (omega arith)
+refusal-only j n k (got (settled bs)) h e = absurd (cc)
+refusal-only j n k (got (unsettled cs)) h e = absurd (cc)
 
 module _ (pool table set result work : List ℕ) where
   abbrev first : Got (Unit {0})
@@ -302,8 +298,8 @@ module _ (pool table set result work : List ℕ) where
   unfolding lent lentTable lentResult lentWork
   lent-refuses =
       next (lentTable pool table >> lentResult result) _
-      (next (lentTable pool table) _ (need-refuses (leb 8192 (length pool) && leb 257 (length table)) 10 ten)
-      (λ _. need-refuses (leb 8192 (length result)) 10 ten)) (λ _. need-refuses (leb 16384 (length work)) 10 ten)
+      (next (lentTable pool table) _ (needs (leb 8192 (length pool) && leb 257 (length table)) 10 ten)
+      (λ _. needs (leb 8192 (length result)) 10 ten)) (λ _. needs (leb 16384 (length work)) 10 ten)
     where
       ten : Known 10
       ten = inl refl
@@ -314,7 +310,7 @@ module _ (pool table set result work : List ℕ) where
       next (orRefuse 1 (records set)) _ (or-refuses 1 (records set) one) (λ rs.
       next (orRefuse 1 (read_all readCon (length rs) rs)) _ (or-refuses 1 (read_all readCon (length rs) rs) one) (λ cs.
       next (need (all (goodCon (numbersOf (table_of pool table)) (is_held (table_of pool table)) 0) cs) 1) _
-      (need-refuses (all (goodCon (numbersOf (table_of pool table)) (is_held (table_of pool table)) 0) cs) 1 one) (λ _. given)))
+      (needs (all (goodCon (numbersOf (table_of pool table)) (is_held (table_of pool table)) 0) cs) 1 one) (λ _. given)))
     where
       one : Known 1
       one = inr (inl refl)
@@ -322,11 +318,11 @@ module _ (pool table set result work : List ℕ) where
   checks-refuse : Refuses Known (setChecked (table_of pool table) set)
   unfolding setChecked shortLists tableKept apart
   checks-refuse =
-      next (shortLists (set ∷ [])) _ (need-refuses (all (λ ws. leb (length ws) 8192) (set ∷ [])) 8 (inr (inr (inr (inl refl))))) (λ _.
-      next (tableKept (table_of pool table)) _ (need-refuses (tableGood (table_of pool table)) 1 (inr (inl refl))) (λ _.
+      next (shortLists (set ∷ [])) _ (needs (all (λ ws. leb (length ws) 8192) (set ∷ [])) 8 (inr (inr (inr (inl refl))))) (λ _.
+      next (tableKept (table_of pool table)) _ (needs (tableGood (table_of pool table)) 1 (inr (inl refl))) (λ _.
       next (setGiven (table_of pool table) set) _ given-refuses (λ cs.
       next (apart (table_of pool table) (collect opensCon cs)) _
-      (need-refuses (unmixed (numbersOf (table_of pool table)) (collect opensCon cs)) 4 (inr (inr (inl refl)))) (λ _. given))))
+      (needs (unmixed (numbersOf (table_of pool table)) (collect opensCon cs)) 4 (inr (inr (inl refl)))) (λ _. given))))
 
   call-refuses : Refuses Known eliminating
   unfolding eliminatedSet
@@ -343,8 +339,8 @@ module _ (pool table set result work : List ℕ) where
     where
       go : (m : Got (Settled ℕ)) → eliminating ≡ m → Known n
       go (refused j) i = let z : refusedWith j ≡ refusedWith n = rw i at e in subst Known (cc) (call-refuses.only j i)
-      go (got (settled bs)) i = let z : allBound (sum_of sizeBinding bs) ≡ refusedWith n = rw i at e in let y : ◌≡◌ {A = ℕ} 0 1 = cc in absurd (omega arith)
-      go (got (unsettled cs)) i = let z : someLeft (sum_of sizeCon cs) ≡ refusedWith n = rw i at e in let y : ◌≡◌ {A = ℕ} 0 1 = cc in absurd (omega arith)
+      go (got (settled bs)) i = let z : allBound (sum_of sizeBinding bs) ≡ refusedWith n = rw i at e in absurd (cc)
+      go (got (unsettled cs)) i = let z : someLeft (sum_of sizeCon cs) ≡ refusedWith n = rw i at e in absurd (cc)
 
   -- 'where neither engine answers 7 or 8, both refuse alike ..'. It is enough that this engine doesn't
   pub unless-limited : ((n : ℕ) → (n ≡ 7) ⊎ (n ≡ 8) → (eliminateCall pool table set result work).answer ≡ refusedWith n → ⊥) → Alike pool table set result work

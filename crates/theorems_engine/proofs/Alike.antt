@@ -14,10 +14,6 @@ pub onward : {A B C D : Type 0} {R : A → B → Type 0} {S : C → D → Type 0
 onward f g (both {a} {b} r) h = h a b r
 onward f g neither h = neither
 
-pub weaker : {A B : Type 0} {R S : A → B → Type 0} {m : Got A} {n : Got B} → ((a : A) (b : B) → R a b → S a b) → Alike R m n → Alike S m n
-weaker f (both {a} {b} r) = both (f a b r)
-weaker f neither = neither
-
 -- a step that one of the two has alone
 pub one_more : {A B C : Type 0} {R : A → B → Type 0} {S : C → B → Type 0} {m : Got A} {n : Got B} (f : A → Got C)
     → Alike R m n → ((a : A) (b : B) → R a b → Alike S (f a) (got b)) → Alike S (m >>= f) n
@@ -44,17 +40,13 @@ one-is {R = R} {n = n} e h = subst (λ (k : Got _). Alike R k n) e h
 -- where the one is there, so is the other
 pub other-there : {A B : Type 0} {R : A → B → Type 0} {m : Got A} {n : Got B} (a : A) → Alike R m n → m ≡ got a → (b : B) × (n ≡ got b) × R a b
 other-there {R = R} a (both {a = c} {b = b} r) e = let z : c ≡ a = cc in (b, refl, subst (λ (v : _). R v b) z r)
-other-there a neither e = let z : ◌≡◌ {A = ℕ} 0 1 = cc in absurd (omega arith)
+other-there a neither e = absurd (cc)
 
 module _ {A B : Type 0} where
   -- lists that belong together, one by one
   pub data Side (R : A → B → Type 0) : List A → List B → Type 0 where
     end : Side R [] []
     beside : {a : A} {b : B} {as' : List A} {bs : List B} → R a b → Side R as' bs → Side R (a ∷ as') (b ∷ bs)
-
-  pub append-side : {R : A → B → Type 0} {as' cs : List A} {bs ds : List B} → Side R as' bs → Side R cs ds → Side R (as' ++ cs) (bs ++ ds)
-  append-side end h = h
-  append-side (beside r s) h = beside r (append-side s h)
 
 pub each-side : {A B C D : Type 0} {R : A → B → Type 0} {S : C → D → Type 0} {as' : List A} {bs : List B} (f : A → Got C) (g : B → Got D)
     → ((a : A) (b : B) → R a b → Alike S (f a) (g b)) → Side R as' bs → Alike (λ cs ds. Side S cs ds × (length cs ≡ length as')) (each f as') (each g bs)

@@ -18,6 +18,7 @@ use Rattle.rules.specs.Solving.{run, solve, enough}
 use Rattle.laws.specs.Lists.{Every, is-yes, and_left, and_right}
 use Rattle.laws.proofs.Lists.{is-no}
 use Rattle.laws.specs.Order.{Lawful, Tells}
+use Rattle.laws.proofs.Order.{before_differs}
 use Rattle.laws.proofs.Ranges.{nought-good, stored-good, stored-not-zero}
 use Rattle.laws.specs.Sorted.{Before, Sorted}
 use Rattle.laws.proofs.Sorted.{sooner}
@@ -41,20 +42,20 @@ use Rattle.rules.specs.Elimination.{
   eliminated,
 }
 use Rattle.theorems_engine.proofs.Powers.{Good}
-use Rattle.theorems_engine.proofs.Rows.{Fit, Rising, factors-kept, unlike}
+use Rattle.theorems_engine.proofs.Rows.{Fit, Rising, factors-kept}
 use Rattle.theorems_engine.proofs.Runs.{answered, row-by-row}
 
 -- answers that are the same except for the rounds come from the same
 answered-same : {N : Type 0} (j k : ℕ) (a b : Got (Settled N)) → answered j a ≡ answered k b → a ≡ b
 unfolding answered
 answered-same j k (refused n) (refused m) e = ap refused (cc)
-answered-same j k (refused n) (got (settled cs)) e = let z : ◌≡◌ {A = ℕ} 0 1 = cc in absurd (omega arith)
-answered-same j k (refused n) (got (unsettled cs)) e = let z : ◌≡◌ {A = ℕ} 0 1 = cc in absurd (omega arith)
-answered-same j k (got (settled bs)) (refused m) e = let z : ◌≡◌ {A = ℕ} 0 1 = cc in absurd (omega arith)
+answered-same j k (refused n) (got (settled cs)) e = absurd (cc)
+answered-same j k (refused n) (got (unsettled cs)) e = absurd (cc)
+answered-same j k (got (settled bs)) (refused m) e = absurd (cc)
 answered-same j k (got (settled bs)) (got (settled cs)) e = let z : bs ≡ cs = cc in ap (λ (l : List _). got (settled l)) z
-answered-same j k (got (settled bs)) (got (unsettled cs)) e = let z : ◌≡◌ {A = ℕ} 0 1 = cc in absurd (omega arith)
-answered-same j k (got (unsettled bs)) (refused m) e = let z : ◌≡◌ {A = ℕ} 0 1 = cc in absurd (omega arith)
-answered-same j k (got (unsettled bs)) (got (settled cs)) e = let z : ◌≡◌ {A = ℕ} 0 1 = cc in absurd (omega arith)
+answered-same j k (got (settled bs)) (got (unsettled cs)) e = absurd (cc)
+answered-same j k (got (unsettled bs)) (refused m) e = absurd (cc)
+answered-same j k (got (unsettled bs)) (got (settled cs)) e = absurd (cc)
 answered-same j k (got (unsettled bs)) (got (unsettled cs)) e = let z : bs ≡ cs = cc in ap (λ (l : List _). got (unsettled l)) z
 
 module _ {N : Type 0} (ν : Names N) where
@@ -70,21 +71,21 @@ module _ {N : Type 0} (ν : Names N) (law : Lawful (orderAtom ν)) where
   absent : (a : Atom N) (p : Product N) → Before ν a p → powerIn ν p a ≡ nought
   unfolding powerIn
   absent a [] h = refl
-  absent a (b ↑ e ∷ p) h = power-there ν a b e p (unlike ν law a b h.0) ∙ absent a p h.1
+  absent a (b ↑ e ∷ p) h = power-there ν a b e p (before_differs law a b h.0) ∙ absent a p h.1
 
   -- columns behind an atom don't see it
   behind : (b : Atom N) (e : Exp) (p : Product N) (cols : List (Atom N)) → Every (λ c. orderAtom ν b c ≡ Ordering.lt) cols
       → row_of ν cols (b ↑ e ∷ p) ≡ row_of ν cols p
   unfolding row_of
   behind b e p [] h = refl
-  behind b e p (c ∷ cols) h = ap₂ ◌∷◌ (power-there ν c b e p (λ i. unlike ν law b c h.0 (sym i))) (behind b e p cols h.1)
+  behind b e p (c ∷ cols) h = ap₂ ◌∷◌ (power-there ν c b e p (λ i. before_differs law b c h.0 (sym i))) (behind b e p cols h.1)
 
   abbrev Over : List (Atom N) → Product N → Type 0
   Over cols p = Every (λ f. In (atomOf f) cols) p
 
   further-in : (a : Atom N) (cols : List (Atom N)) (p : Product N) → Before ν a p → Over (a ∷ cols) p → Over cols p
   further-in a cols [] h k = tt
-  further-in a cols (b ↑ e ∷ p) h k = (⊎_elim (λ i. absurd (unlike ν law a b h.0 (sym i))) (λ i. i) k.0, further-in a cols p h.1 k.1)
+  further-in a cols (b ↑ e ∷ p) h k = (⊎_elim (λ i. absurd (before_differs law a b h.0 (sym i))) (λ i. i) k.0, further-in a cols p h.1 k.1)
 
   abbrev NotZero : Factor N → Type 0
   NotZero (a ↑ e) = isZero e ≡ false

@@ -20,7 +20,7 @@ use Rattle.laws.specs.Lists.{Every}
 use Rattle.laws.proofs.Lists.{bracket, same_after}
 use Rattle.laws.proofs.Ranges.{good-lowest}
 use Rattle.laws.specs.Order.{Lawful, turned}
-use Rattle.laws.proofs.Order.{self}
+use Rattle.laws.proofs.Order.{self, before_differs}
 use Rattle.laws.proofs.Value.{together, its_own}
 use Rattle.laws.proofs.Ranges.{nought-good, one-good, neg-good, sum-good, times-good, quotient-good}
 use Rattle.laws.specs.Sorted.{Before}
@@ -90,10 +90,6 @@ module _ {N : Type 0} where
   pub factors-kept : (a : Atom N) (cols : List (Atom N)) (e : Exp) (r : Row) → isZero e ≡ false → factors (a ∷ cols) (e ∷ r) ≡ a ↑ e ∷ factors cols r
   unfolding factors
   factors-kept a cols e r z = put-kept a e (factors cols r) z
-
-  factors-dropped : (a : Atom N) (cols : List (Atom N)) (r : Row) → factors (a ∷ cols) (nought ∷ r) ≡ factors cols r
-  unfolding factors
-  factors-dropped a cols r = refl
 
   pub factors-few : (cols : List (Atom N)) (r : Row) → length (factors cols r) ≤ length cols
   unfolding factors
@@ -260,10 +256,6 @@ module _ {N : Type 0} (ν : Names N) (law : Lawful (orderAtom ν)) where
   unfolding divide multiply inverse
   divided cols r c a few u h k z = rw (cleared cols r c a u h k z) (within-few cols (set r c nought) _ few refl)
 
-  -- an atom isn't one that stands behind it
-  pub unlike : (a b : Atom N) → orderAtom ν a b ≡ Ordering.lt → ¬ (a ≡ b)
-  unlike a b h e = let i : orderAtom ν a b ≡ Ordering.eq = rw (← e) (self law a) in let z : ◌≡◌ {A = ℕ} 0 1 = cc in omega arith
-
   -- a variable x, put in as the product of a row
   module _ (x : N) (q : Product N) where
     abbrev look : Look N
@@ -296,7 +288,7 @@ module _ {N : Type 0} (ν : Names N) (law : Lawful (orderAtom ν)) where
     skipped : (fs acc : Product N) → Before ν (free (var x)) fs → replaceFactors ν bounded look fs acc ≡ got acc
     unfolding replaceFactors
     skipped [] acc h = refl
-    skipped (a ↑ e ∷ fs) acc h = passed-by a e fs acc (λ i. unlike (free (var x)) a h.0 (sym i)) ∙ skipped fs acc h.1
+    skipped (a ↑ e ∷ fs) acc h = passed-by a e fs acc (λ i. before_differs law (free (var x)) a h.0 (sym i)) ∙ skipped fs acc h.1
 
     passing : (o : Open N) → (o ≡ var x → ⊥) → replaceProduct ν bounded look (just o) ≡ got (just o)
     unfolding replaceProduct replaceFactors
@@ -327,7 +319,7 @@ module _ {N : Type 0} (ν : Names N) (law : Lawful (orderAtom ν)) where
         let o : orderAtom ν b (free (var x)) ≡ Ordering.lt = at_every (λ y. orderAtom ν b y ≡ Ordering.lt) cols c (free (var x)) u.0 k in
         let same : replaceFactors ν bounded look (factors (b ∷ cols) (e ∷ r)) acc ≡ replaceFactors ν bounded look (factors cols r) acc
         = by-power (λ e. replaceFactors ν bounded look (factors (b ∷ cols) (e ∷ r)) acc ≡ replaceFactors ν bounded look (factors cols r) acc) e h.0 refl
-        (λ y. rw (factors-kept b cols e r y) (passed-by b e (factors cols r) acc (unlike b (free (var x)) o))) in
+        (λ y. rw (factors-kept b cols e r y) (passed-by b e (factors cols r) acc (before_differs law b (free (var x)) o))) in
         let more = walked cols r c acc u.1 h.1 k in
         (λ z. same ∙ more.0 z, λ z. same ∙ more.1 z)
 
@@ -439,13 +431,13 @@ module _ {N : Type 0} (ν : Names N) (law : Lawful (orderAtom ν)) where
       is_bound {c = 0} {x = x} refl z (rw (factors-kept (free (var x)) cols e r z, nought-quotient e h.0 z)
       (onward _ _ (other_row cols r e h.1 h.0 z) (λ w q t. both ((nought-good, t.fit), ap (λ (p : Product N). bind x (dim p)) t.is))))
   here (free (quant i)) cols e r u h z = is_stuck (rw (factors-kept (free (quant i)) cols e r z))
-      (no-variable (free (quant i)) cols e r u.0 (λ x k. let z : ◌≡◌ {A = ℕ} 0 1 = cc in omega arith)
-      (λ x k. let z : ◌≡◌ {A = ℕ} 0 1 = cc in omega arith))
+      (no-variable (free (quant i)) cols e r u.0 (λ x k. cc)
+      (λ x k. cc))
   here (free (par y)) cols e r u h z = is_stuck (rw (factors-kept (free (par y)) cols e r z))
-      (no-variable (free (par y)) cols e r u.0 (λ x k. let z : ◌≡◌ {A = ℕ} 0 1 = cc in omega arith)
-      (λ x k. let z : ◌≡◌ {A = ℕ} 0 1 = cc in omega arith))
+      (no-variable (free (par y)) cols e r u.0 (λ x k. cc)
+      (λ x k. cc))
   here (base n) cols e r u h z = is_stuck (rw (factors-kept (base n) cols e r z))
-      (no-variable (base n) cols e r u.0 (λ x k. let z : ◌≡◌ {A = ℕ} 0 1 = cc in omega arith) (λ x k. let z : ◌≡◌ {A = ℕ} 0 1 = cc in omega arith))
+      (no-variable (base n) cols e r u.0 (λ x k. cc) (λ x k. cc))
 
   pub does : (cols : List (Atom N)) (r : Row) → Rising ν cols → Fit cols r → Does cols r (fate cols r)
   unfolding fate factors

@@ -117,8 +117,7 @@ module _ {N : Type 0} (ν : Names N) (law : Lawful (orderAtom ν)) (P : N × N �
         go (c ∷ cs) i =
             let z = subst (λ (cs : List (Con N)). finish ν k (record { cons = cs; binds = s.binds }) ≡ accepted bs ns j) i e in
             let y : remaining (c ∷ keep (λ c. is_none (boundOf c)) cs) k ≡ accepted bs ns j = rw (no_bound ν law P c (rw i at a c in_head), keep) at z in
-            let x : ◌≡◌ {A = ℕ} 0 1 = cc in
-            absurd (omega arith)
+            absurd (cc)
 
     -- a property of the state that holds at the end, and before a round if after it
     module _ (Q : State N → Type 0) (last : (s : State N) → s.cons ≡ [] → s.binds ≡ bs → Q s)
@@ -127,13 +126,13 @@ module _ {N : Type 0} (ν : Names N) (law : Lawful (orderAtom ν)) (P : N × N �
           → round ν bounded s ≡ m → after ν m k s (λ r. run ν bounded f (suc k) r) ≡ accepted bs ns j
           → ((r r' : State N) → States ν law P r r' → run ν bounded f (suc k) r ≡ accepted bs ns j → Q r) → Q s
       unfolding after
-      turned f k s s' a (neither n) i e more = let x : ◌≡◌ {A = ℕ} 0 1 = cc in absurd (omega arith)
+      turned f k s s' a (neither n) i e more = absurd (cc)
       turned f k s s' a (both (over h c)) i e more = let z = ended k s c e in last s z.0 z.1
       turned f k s s' a (both (on {a = r} {b = r'} b)) i e more = back s s' r r' a b (turn ν bounded s r i) (more r r' b e)
 
       through : (f k : ℕ) (s s' : State N) → States ν law P s s' → run ν bounded f k s ≡ accepted bs ns j → Q s
       unfolding run
-      through zero k s s' a e = let x : ◌≡◌ {A = ℕ} 0 1 = cc in absurd (omega arith)
+      through zero k s s' a e = absurd (cc)
       through (suc f) k s s' a e = turned f k s s' a (rounds ν law P s s' a) refl e (λ r r' b i. through f (suc k) r r' b i)
 
     stays-back : (s s' r : State N) → States ν law P s s' → Turn ν bounded s r → Stays r → Stays s
@@ -207,7 +206,7 @@ module _ {N : Type 0} (ν : Names N) (law : Lawful (orderAtom ν)) (P : N × N �
         go : Plain u → (st ≡ stuck) ⊎ ((q : Product N) × (u ≡ dim q) × ((new : List (Con N)) × (st ≡ split new))) → Dim (isDim u)
         go p (inl i) = absurd (n i)
         go (inl h) (inr (q, i, k)) = λ w r. dimension-is q w (sym i ∙ put-closed u w h r)
-        go (inr (y, j)) (inr (q, i, k)) = let z : opened (var y) ≡ dim q = sym j ∙ i in let x : ◌≡◌ {A = ℕ} 0 1 = cc in absurd (omega arith)
+        go (inr (y, j)) (inr (q, i, k)) = let z : opened (var y) ≡ dim q = sym j ∙ i in absurd (cc)
 
     fine_back : (s s' r r' : State N) → States ν law P s s' → States ν law P r r' → Turn ν bounded s r → Fine r → Fine s
     fine_back s s' r r' a a' t h = record { stays = stays-back s s' r a t h.stays; dims = go t (flow-plain a.flows) }

@@ -24,11 +24,6 @@ pub hence : {A B C D : Type 0} {R : A → B → Type 0} {S : C → D → Type 0}
 hence (neither n) s = neither n
 hence (both {a} {b} r) s = s a b r
 
--- the same answer on both sides, with something known of its value
-pub equally : {A : Type 0} (P : A → Type 0) (m : Got A) → ((a : A) → m ≡ got a → P a) → Alike (λ a b. (a ≡ b) × P a) m m
-equally P (got a) h = both (refl, h a refl)
-equally P (refused n) h = neither n
-
 module _ {N : Type 0} (ν : Names N) where
   abbrev pub Pairs : Type 0
   Pairs = List (N × N)

@@ -72,5 +72,4 @@ closed-needed claim =
     let y : a.ss ≡ sumSteps = cc in
     let w = claim sum 2 sum-answered in
     let v : fault notDimension ≡ ran (w.left ∷ []) = sym (ap (runLine (numbersOf (table_of pool table))) y ∙ sum-stops) ∙ w.ends in
-    let x : ◌≡◌ {A = ℕ} 0 1 = cc in
-    omega arith
+    cc

@@ -66,7 +66,7 @@ module _ {N : Type 0} (ν : Names N) (P : N × N → Type 0) where
   NoPar o = (x : N) → ¬ (o ≡ par x)
 
   var-no-par : (x : N) → NoPar (var x)
-  var-no-par x y e = let z : ◌≡◌ {A = ℕ} 0 1 = cc in omega arith
+  var-no-par x y e = cc
 
   shut-no-par : (os : List (Open N)) → All Never os → All NoPar os
   shut-no-par os h o m = absurd (h o m)
@@ -311,7 +311,7 @@ module _ {N : Type 0} (ν : Names N) (held : N → Bool) (ord : Ordered ν held)
 
     both-got : {m m' : Got (List (Binding N) × List N)} → Alike Found m m' → (f : List (Binding N) × List N) → m ≡ got f
         → (f' : List (Binding N) × List N) × (m' ≡ got f') × Found f f'
-    both-got (neither n) f e = let z : ◌≡◌ {A = ℕ} 0 1 = cc in absurd (omega arith)
+    both-got (neither n) f e = absurd (cc)
     both-got (both {a} {b} r) f e = let z : a ≡ f = cc in (b, refl, subst (λ (g : List (Binding N) × List N). Found g b) z r)
 
     abbrev other : Got (Ty N)
@@ -341,7 +341,7 @@ module _ {N : Type 0} (ν : Names N) (held : N → Bool) (ord : Ordered ν held)
     -- a refusal of the solver is the same
     both-refused : {m m' : Got (List (Binding N) × List N)} → Alike Found m m' → (n : ℕ) → m ≡ refused n → m' ≡ refused n
     both-refused (neither n) k e = cc
-    both-refused (both r) k e = let z : ◌≡◌ {A = ℕ} 0 1 = cc in absurd (omega arith)
+    both-refused (both r) k e = absurd (cc)
 
     pub refused-alike : (n : ℕ) → settledSet ν cs ≡ refused n → (lineType ν ss (firsts ps) ≡ refused n) × (other ≡ refused n)
     unfolding lineType agreedSet

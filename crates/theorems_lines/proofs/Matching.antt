@@ -75,15 +75,15 @@ module _ {N : Type 0} where
   pub closed-reads : (t : Ty N) (o : Open N) → opens t ≡ [] → plain t false ≡ opened o → ⊥
   unfolding plain plainDim opens collect
   closed-reads (opened u) o c e = cons≢nil c
-  closed-reads (basic b) o c e = let z : ◌≡◌ {A = ℕ} 0 1 = cc in omega arith
+  closed-reads (basic b) o c e = cc
   closed-reads (dim p) o c e = go (single p) refl e
     where
       go : (s : Option (Open N)) → single p ≡ s → plainDim s p ≡ opened o → ⊥
-      go none i h = let z : ◌≡◌ {A = ℕ} 0 1 = cc in omega arith
+      go none i h = cc
       go (some u) i h = cons≢nil (sym (ap (λ (q : Product N). collect openOfFactor q) (single-is p u i)) ∙ c)
-  closed-reads (fn ps r) o c e = let z : ◌≡◌ {A = ℕ} 0 1 = cc in omega arith
-  closed-reads (struct n as' fs) o c e = let z : ◌≡◌ {A = ℕ} 0 1 = cc in omega arith
-  closed-reads (list t) o c e = let z : ◌≡◌ {A = ℕ} 0 1 = cc in omega arith
+  closed-reads (fn ps r) o c e = cc
+  closed-reads (struct n as' fs) o c e = cc
+  closed-reads (list t) o c e = cc
 
   -- what is read as a dimension is that dimension
   reads-dim : (t : Ty N) (p : Product N) → plain t false ≡ dim p → t ≡ dim p

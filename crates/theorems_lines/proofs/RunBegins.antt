@@ -75,11 +75,11 @@ use Rattle.theorems_lines.proofs.RunFlow.{RSide, shut, pair, RTerm, side, half, 
 
 ran-step : {A B : Type 0} (m : Ran A) (f : A → Ran B) (b : B) → (m >>= f) ≡ ran b → (a : A) × (m ≡ ran a) × (f a ≡ ran b)
 ran-step (ran a) f b e = (a, refl, e)
-ran-step (fault k) f b e = let x : ◌≡◌ {A = ℕ} 0 1 = cc in absurd (omega arith)
+ran-step (fault k) f b e = absurd (cc)
 
 asked : (b : Bool) (k : Fault) (u : Unit {0}) → asks b k ≡ ran u → b ≡ true
 asked true k u e = refl
-asked false k u e = let x : ◌≡◌ {A = ℕ} 0 1 = cc in absurd (omega arith)
+asked false k u e = absurd (cc)
 
 module _ {N : Type 0} (ν : Names N) where
   dimension-ran : (t : Ty N) (p : Product N) → dimensionOf ν t ≡ ran p → t ≡ dim p
@@ -87,7 +87,7 @@ module _ {N : Type 0} (ν : Names N) where
   dimension-ran t p e = go (productOf t) refl e
     where
       go : (o : Option (Product N)) → productOf t ≡ o → orFault Fault.notDimension o ≡ ran p → t ≡ dim p
-      go none i h = let x : ◌≡◌ {A = ℕ} 0 1 = cc in absurd (omega arith)
+      go none i h = absurd (cc)
       go (some q) i h = let j : q ≡ p = cc in product-of t q i ∙ ap dim j
 
   record Dims (s t : Ty N) : Type 0 where
@@ -174,7 +174,7 @@ module _ {N : Type 0} (ν : Names N) (held : N → Bool) (ord : Ordered ν held)
 
   boolean-sound : Sound (basic boolean)
   unfolding opens
-  boolean-sound = record { closed = all_nil Never; proper = λ d e. let x : ◌≡◌ {A = ℕ} 0 1 = cc in absurd (omega arith) }
+  boolean-sound = record { closed = all_nil Never; proper = λ d e. absurd (cc) }
 
   type-sound : (t : Ty N) → opens t ≡ [] → goodTy ν held 0 t ≡ true → Sound t
   unfolding goodTy

@@ -112,11 +112,6 @@ module _ {N : Type 0} (ν : Names N) (law : Lawful (orderAtom ν)) {Held : Atom 
   unfolding asProduct
   as-dim t d e = rw e
 
-  merged-shut : (p d : Product N) (e : Exp) → Shut (dim p) → Shut (dim d) → Shut (dim (mergeE ν p (raiseE d e)))
-  unfolding opens
-  merged-shut p d e h k = each_opens Never (mergeE ν p (raiseE d e))
-      (merge_on Never ν p (raiseE d e) (opens-each Never p h) (raise-on Never ν d e (opens-each Never d k)))
-
   raised-shut : (d : Product N) (e : Exp) → Shut (dim d) → Shut (dim (raiseE d e))
   unfolding opens
   raised-shut d e k = each_opens Never (raiseE d e) (raise-on Never ν d e (opens-each Never d k))

@@ -63,42 +63,42 @@ module _ {N : Type 0} where
 
   like-fn : (t : Ty N) (ps : Tys N) (r : Ty N) → plain t false ≡ fn ps r → (qs : Tys N) × (q : Ty N) × (t ≡ fn qs q)
   unfolding plain plainDim
-  like-fn (opened o) ps r e = let x : ◌≡◌ {A = ℕ} 0 1 = cc in absurd (omega arith)
-  like-fn (basic b) ps r e = let x : ◌≡◌ {A = ℕ} 0 1 = cc in absurd (omega arith)
+  like-fn (opened o) ps r e = absurd (cc)
+  like-fn (basic b) ps r e = absurd (cc)
   like-fn (dim p) ps r e = go (single p) e
     where
       go : (s : Option (Open N)) → plainDim s p ≡ fn ps r → (qs : Tys N) × (q : Ty N) × (dim p ≡ fn qs q)
-      go none i = let x : ◌≡◌ {A = ℕ} 0 1 = cc in absurd (omega arith)
-      go (some o) i = let x : ◌≡◌ {A = ℕ} 0 1 = cc in absurd (omega arith)
+      go none i = absurd (cc)
+      go (some o) i = absurd (cc)
   like-fn (fn qs q) ps r e = (qs, q, refl)
-  like-fn (struct n as' fs) ps r e = let x : ◌≡◌ {A = ℕ} 0 1 = cc in absurd (omega arith)
-  like-fn (list t) ps r e = let x : ◌≡◌ {A = ℕ} 0 1 = cc in absurd (omega arith)
+  like-fn (struct n as' fs) ps r e = absurd (cc)
+  like-fn (list t) ps r e = absurd (cc)
 
   like-struct : (t : Ty N) (n : N) (as' : Tys N) (fs : Fields N) → plain t false ≡ struct n as' fs
       → (m : N) × (bs : Tys N) × (gs : Fields N) × (t ≡ struct m bs gs)
   unfolding plain plainDim
-  like-struct (opened o) n as' fs e = let x : ◌≡◌ {A = ℕ} 0 1 = cc in absurd (omega arith)
-  like-struct (basic b) n as' fs e = let x : ◌≡◌ {A = ℕ} 0 1 = cc in absurd (omega arith)
+  like-struct (opened o) n as' fs e = absurd (cc)
+  like-struct (basic b) n as' fs e = absurd (cc)
   like-struct (dim p) n as' fs e = go (single p) e
     where
       go : (s : Option (Open N)) → plainDim s p ≡ struct n as' fs → (m : N) × (bs : Tys N) × (gs : Fields N) × (dim p ≡ struct m bs gs)
-      go none i = let x : ◌≡◌ {A = ℕ} 0 1 = cc in absurd (omega arith)
-      go (some o) i = let x : ◌≡◌ {A = ℕ} 0 1 = cc in absurd (omega arith)
-  like-struct (fn qs q) n as' fs e = let x : ◌≡◌ {A = ℕ} 0 1 = cc in absurd (omega arith)
+      go none i = absurd (cc)
+      go (some o) i = absurd (cc)
+  like-struct (fn qs q) n as' fs e = absurd (cc)
   like-struct (struct m bs gs) n as' fs e = (m, bs, gs, refl)
-  like-struct (list t) n as' fs e = let x : ◌≡◌ {A = ℕ} 0 1 = cc in absurd (omega arith)
+  like-struct (list t) n as' fs e = absurd (cc)
 
   like-list : (t u : Ty N) → plain t false ≡ list u → (w : Ty N) × (t ≡ list w)
   unfolding plain plainDim
-  like-list (opened o) u e = let x : ◌≡◌ {A = ℕ} 0 1 = cc in absurd (omega arith)
-  like-list (basic b) u e = let x : ◌≡◌ {A = ℕ} 0 1 = cc in absurd (omega arith)
+  like-list (opened o) u e = absurd (cc)
+  like-list (basic b) u e = absurd (cc)
   like-list (dim p) u e = go (single p) e
     where
       go : (s : Option (Open N)) → plainDim s p ≡ list u → (w : Ty N) × (dim p ≡ list w)
-      go none i = let x : ◌≡◌ {A = ℕ} 0 1 = cc in absurd (omega arith)
-      go (some o) i = let x : ◌≡◌ {A = ℕ} 0 1 = cc in absurd (omega arith)
-  like-list (fn qs q) u e = let x : ◌≡◌ {A = ℕ} 0 1 = cc in absurd (omega arith)
-  like-list (struct m bs gs) u e = let x : ◌≡◌ {A = ℕ} 0 1 = cc in absurd (omega arith)
+      go none i = absurd (cc)
+      go (some o) i = absurd (cc)
+  like-list (fn qs q) u e = absurd (cc)
+  like-list (struct m bs gs) u e = absurd (cc)
   like-list (list t) u e = (t, refl)
 
   like-basic : (t : Ty N) (b : Basic) → plain t false ≡ basic b → t ≡ basic b
@@ -119,8 +119,8 @@ module _ {N : Type 0} where
   same_count : (ts us : Tys N) → plainTys ts false ≡ plainTys us false → count ts ≡ count us
   unfolding plain count
   same_count nil nil e = refl
-  same_count nil (cons u us) e = let x : ◌≡◌ {A = ℕ} 0 1 = cc in absurd (omega arith)
-  same_count (cons t ts) nil e = let x : ◌≡◌ {A = ℕ} 0 1 = cc in absurd (omega arith)
+  same_count nil (cons u us) e = absurd (cc)
+  same_count (cons t ts) nil e = absurd (cc)
   same_count (cons t ts) (cons u us) e = ap suc (same_count ts us (cc))
 
   equal-truly : (s t : Ty N) → Shut s → Shut t → plain s false ≡ plain t false → Truly (equal s t)

@@ -59,14 +59,14 @@ module _ {N : Type 0} where
   pub settled_is : (a : Answer N) (f : List (Binding N) × List N) → settled a ≡ got f → (k : ℕ) × (a ≡ accepted f.0 f.1 k)
   unfolding settled
   settled_is (accepted bs ns k) f e = let z : (bs, ns) ≡ f = cc in (k, ap (λ (g : List (Binding N) × List N). accepted g.0 g.1 k) z)
-  settled_is (remaining cs k) f e = let z : ◌≡◌ {A = ℕ} 0 1 = cc in absurd (omega arith)
-  settled_is (stopped n k) f e = let z : ◌≡◌ {A = ℕ} 0 1 = cc in absurd (omega arith)
+  settled_is (remaining cs k) f e = absurd (cc)
+  settled_is (stopped n k) f e = absurd (cc)
 
 pub agreed-is : (m : Got Bool) (u : Unit {0}) → agreed m ≡ got u → m ≡ got true
 unfolding agreed
-agreed-is (refused n) u e = let z : ◌≡◌ {A = ℕ} 0 1 = cc in absurd (omega arith)
+agreed-is (refused n) u e = absurd (cc)
 agreed-is (got true) u e = refl
-agreed-is (got false) u e = let z : ◌≡◌ {A = ℕ} 0 1 = cc in absurd (omega arith)
+agreed-is (got false) u e = absurd (cc)
 
 -- a set that was solved and judged
 pub record Agreed {N : Type 0} (ν : Names N) (cs : List (Con N)) (bs : List (Binding N)) : Type 0 where

@@ -182,8 +182,8 @@ module _ {pool table pool' table' : List ℕ} (good : Good pool table) (good' : 
   unfolding resultAfter
   told b b' w w' (neither n) = record { answer = refl; places = refl }
   told b b' w w' (both none none e) = record { answer = refl; places = refl }
-  told b b' w w' (both none (some ls') e) = absurd (let z : ◌≡◌ {A = ℕ} 0 1 = cc in omega arith)
-  told b b' w w' (both (some ls) none e) = absurd (let z : ◌≡◌ {A = ℕ} 0 1 = cc in omega arith)
+  told b b' w w' (both none (some ls') e) = absurd (cc)
+  told b b' w w' (both (some ls) none e) = absurd (cc)
   told b b' w w' (both (some ls) (some ls') e) =
       let i : map (mapLine ν₁) ls ≡ map (mapLine ν₂) ls' = cc in
       let p = places-alike ls ls' i in

@@ -92,8 +92,8 @@ module _ {pool table pool' table' : List ℕ} (good : Good pool table) (good' : 
         answer = ap allBound (sym (size-bindings ν₁ bs) ∙ ap (sum_of sizeBinding) x ∙ size-bindings ν₂ bs');
         records = λ b b'. fronts T₁ T₂ _ _ _ _ b b' (bindings-length bs) (bindings-length bs') (bindings-written T₁ T₂ bs bs' x);
       }
-  same-settled (settled bs) (unsettled cs') e = absurd (let z : ◌≡◌ {A = ℕ} 0 1 = cc in omega arith)
-  same-settled (unsettled cs) (settled bs') e = absurd (let z : ◌≡◌ {A = ℕ} 0 1 = cc in omega arith)
+  same-settled (settled bs) (unsettled cs') e = absurd (cc)
+  same-settled (unsettled cs) (settled bs') e = absurd (cc)
   same-settled (unsettled cs) (unsettled cs') e =
       let x : map (mapCon ν₁) cs ≡ map (mapCon ν₂) cs' = cc in
       record {

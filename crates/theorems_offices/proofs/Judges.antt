@@ -100,8 +100,8 @@ module _ {pool table pool' table' : List ℕ} (good : Good pool table) (good' : 
       → Both (map (mapBinding ν₁)) (map (mapBinding ν₂)) (each (bindingOf T₁ rs) es) (each (bindingOf T₂ rs') es')
   unfolding each
   all-bindings rs rs' h [] [] i p = alike refl
-  all-bindings rs rs' h [] (e ∷ es) i p = absurd (let z : ◌≡◌ {A = ℕ} 0 1 = cc in omega arith)
-  all-bindings rs rs' h (e ∷ es) [] i p = absurd (let z : ◌≡◌ {A = ℕ} 0 1 = cc in omega arith)
+  all-bindings rs rs' h [] (e ∷ es) i p = absurd (cc)
+  all-bindings rs rs' h (e ∷ es) [] i p = absurd (cc)
   all-bindings rs rs' h (e ∷ es) (e' ∷ es') i p =
       hence (binding-of rs rs' e e' h (cc) (cc)) (λ b b' j. hence (all-bindings rs rs' h es es' (cc) (cc)) (λ bs bs' k. alike (rw (j, k))))
 

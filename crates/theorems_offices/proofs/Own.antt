@@ -40,7 +40,7 @@ use Rattle.theorems_offices.proofs.Results.{joined-alike, rest-alike}
 module _ (f f' : ℕ → Name) where
   at-alike : (ns ns' : List ℕ) (a : ℕ) → map f ns ≡ map f' ns' → a < length ns → f (get_or ns a 0) ≡ f' (get_or ns' a 0)
   at-alike [] ns' a e h = absurd (omega arith)
-  at-alike (n ∷ ns) [] a e h = absurd (let z : ◌≡◌ {A = ℕ} 0 1 = cc in omega arith)
+  at-alike (n ∷ ns) [] a e h = absurd (cc)
   at-alike (n ∷ ns) (n' ∷ ns') zero e h = cc
   at-alike (n ∷ ns) (n' ∷ ns') (suc a) e h = at-alike ns ns' a (cc) (omega arith)
 
@@ -108,8 +108,8 @@ other-kind : (k j : ℕ) (b : Bool) → namesOne k 0 ≡ b → namesOne j 0 ≡ 
 other-kind k j b h g = go (eqb k j) refl
   where
     unlike : (b : Bool) → b ≡ not b → ⊥
-    unlike true e = let z : ◌≡◌ {A = ℕ} 0 1 = cc in omega arith
-    unlike false e = let z : ◌≡◌ {A = ℕ} 0 1 = cc in omega arith
+    unlike true e = cc
+    unlike false e = cc
 
     go : (x : Bool) → eqb k j ≡ x → eqb k j ≡ false
     go false e = e

@@ -49,10 +49,6 @@ ended r = and_then (read_all readBound (length r.1) r.1) (λ bs. ends r.0 bs)
 abbrev whole : ℕ → ℕ → Option (Scheme ℕ × List Rec) → Option (Scheme ℕ)
 whole n m o = ifSo (eqb n m) (and_then o ended)
 
-scheme-step : (w n b c : ℕ) (rs : List Rec) → schemeOf (rec w n b c ∷ rs) ≡ whole (lengthIn w) (suc (length rs)) (pick (kindIn w) (headTable n b c) rs)
-unfolding schemeOf
-scheme-step w n b c rs = refl
-
 module _ (t t' : Table) where
   form-rows : (b n n' : ℕ) → n ≡ n' → Tables t t' (mapScheme (nameNo t)) (mapScheme (nameNo t')) b (formTable n) (formTable n')
   unfolding mapScheme

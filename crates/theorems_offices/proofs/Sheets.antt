@@ -28,8 +28,8 @@ module _ {pool table pool' table' : List ℕ} (good : Good pool table) (good' : 
     outcome : {x x' : Sheet} → SheetsOut (table_of pool table) (table_of pool' table') x x'
         → meetsThree (handed pool table result work x).answer ≡ false → meetsThree (handed pool' table' result' work' x').answer ≡ false
         → TextReadAlike (handed pool table result work x) (handed pool' table' result' work' x')
-    outcome (three-at l c x) h h' = absurd (let z : ◌≡◌ {A = ℕ} 0 1 = cc in omega arith)
-    outcome (three-at' x l c) h h' = absurd (let z : ◌≡◌ {A = ℕ} 0 1 = cc in omega arith)
+    outcome (three-at l c x) h h' = absurd (cc)
+    outcome (three-at' x l c) h h' = absurd (cc)
     outcome (refused-at n l c) h h' = record { answer = refl; records = nothing (table_of pool table) (table_of pool' table') }
     outcome (both-read cs cs' s s' b r) h h' =
         let ν = nameNo (table_of s.pool s.table) in

@@ -63,9 +63,9 @@ module _ {pool table pool' table' : List ℕ} (good : Good pool table) (good' : 
     where
       solved-same : {m m' n n' k k' : ℕ} → m ≡ m' → n ≡ n' → k ≡ k' → solved m n k ≡ solved m' n' k'
       solved-same e f g = rw (e, f, g)
-  same-answers (accepted bs ns k) (remaining cs' k') e = absurd (let z : ◌≡◌ {A = ℕ} 0 1 = cc in omega arith)
-  same-answers (accepted bs ns k) (stopped n' k') e = absurd (let z : ◌≡◌ {A = ℕ} 0 1 = cc in omega arith)
-  same-answers (remaining cs k) (accepted bs' ns' k') e = absurd (let z : ◌≡◌ {A = ℕ} 0 1 = cc in omega arith)
+  same-answers (accepted bs ns k) (remaining cs' k') e = absurd (cc)
+  same-answers (accepted bs ns k) (stopped n' k') e = absurd (cc)
+  same-answers (remaining cs k) (accepted bs' ns' k') e = absurd (cc)
   same-answers (remaining cs k) (remaining cs' k') e =
       let x : map (mapCon ν₁) cs ≡ map (mapCon ν₂) cs' = cc in
       let z : k ≡ k' = cc in
@@ -73,9 +73,9 @@ module _ {pool table pool' table' : List ℕ} (good : Good pool table) (good' : 
         answer = ap₂ unsolved (sym (size-cons ν₁ cs) ∙ ap (sum_of sizeCon) x ∙ size-cons ν₂ cs') z;
         records = λ b b'. fronts T₁ T₂ _ _ _ _ b b' (set-length cs) (set-length cs') (set-written T₁ T₂ cs cs' x);
       }
-  same-answers (remaining cs k) (stopped n' k') e = absurd (let z : ◌≡◌ {A = ℕ} 0 1 = cc in omega arith)
-  same-answers (stopped n k) (accepted bs' ns' k') e = absurd (let z : ◌≡◌ {A = ℕ} 0 1 = cc in omega arith)
-  same-answers (stopped n k) (remaining cs' k') e = absurd (let z : ◌≡◌ {A = ℕ} 0 1 = cc in omega arith)
+  same-answers (remaining cs k) (stopped n' k') e = absurd (cc)
+  same-answers (stopped n k) (accepted bs' ns' k') e = absurd (cc)
+  same-answers (stopped n k) (remaining cs' k') e = absurd (cc)
   same-answers (stopped n k) (stopped n' k') e =
       let x : n ≡ n' = cc in
       let z : k ≡ k' = cc in

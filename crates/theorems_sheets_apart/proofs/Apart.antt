@@ -52,8 +52,8 @@ module _ (e e' : Edition) (k k' : ℕ) (name : Bytes) where
           → SheetsOut (table_of w.pool w.table) (table_of w'.pool w'.table) x x'
           → metThree (some (foundOn t (page_of name text x))) ≡ false → metThree (some (foundOn t' (page_of name text x'))) ≡ false
           → foundOn t (page_of name text x) ≡ foundOn t' (page_of name text x')
-      go x i x' i' (three-at l c y) h h' = absurd (let z : ◌≡◌ {A = ℕ} 0 1 = cc in omega arith)
-      go x i x' i' (three-at' y l c) h h' = absurd (let z : ◌≡◌ {A = ℕ} 0 1 = cc in omega arith)
+      go x i x' i' (three-at l c y) h h' = absurd (cc)
+      go x i x' i' (three-at' y l c) h h' = absurd (cc)
       go x i x' i' (refused-at n l c) h h' = refl
       go x i x' i' (both-read cs cs' s s' b q) h h' = held-alike w.last w'.last cs cs'
           (q.at t t' (record { here = w.leaves cs s i; there = w'.leaves cs' s' i' }))
@@ -69,8 +69,8 @@ module _ (e e' : Edition) (k k' : ℕ) (name : Bytes) where
       go : {x x' : Sheet} → SheetsOut (table_of w.pool w.table) (table_of w'.pool w'.table) x x'
           → metThree (some (foundOn t (page_of name text x))) ≡ false → metThree (some (foundOn t' (page_of name text x'))) ≡ false
           → constraintsIn (page_of name text x).content ≡ constraintsIn (page_of name text x').content
-      go (three-at l c y) h h' = absurd (let z : ◌≡◌ {A = ℕ} 0 1 = cc in omega arith)
-      go (three-at' y l c) h h' = absurd (let z : ◌≡◌ {A = ℕ} 0 1 = cc in omega arith)
+      go (three-at l c y) h h' = absurd (cc)
+      go (three-at' y l c) h h' = absurd (cc)
       go (refused-at n l c) h h' = refl
       go (both-read cs cs' s s' b q) h h' =
           let m = now q in

@@ -25,9 +25,9 @@ sheet-left : {pool table : List ℕ} → Good pool table → (text : Bytes) (cs 
 sheet-left {pool} {table} g text cs s e = go (sheets-alike g g text) e e
   where
     go : {x x' : Sheet} → SheetsOut (table_of pool table) (table_of pool table) x x' → x ≡ sheet cs s → x' ≡ sheet cs s → Left pool table s.pool s.table
-    go (three-at l c x) e f = absurd (let z : ◌≡◌ {A = ℕ} 0 1 = cc in omega arith)
-    go (three-at' x l c) e f = absurd (let z : ◌≡◌ {A = ℕ} 0 1 = cc in omega arith)
-    go (refused-at n l c) e f = absurd (let z : ◌≡◌ {A = ℕ} 0 1 = cc in omega arith)
+    go (three-at l c x) e f = absurd (cc)
+    go (three-at' x l c) e f = absurd (cc)
+    go (refused-at n l c) e f = absurd (cc)
     go (both-read ds ds' r r' b q) e f =
         let i : r ≡ s = cc in
         subst (λ (z : Sofar). Left pool table z.pool z.table) i (record { good = b.good; grown = b.grown.here })

@@ -62,16 +62,16 @@ module _ {pool table pool' table' : List ℕ} (good : Good pool table) (good' : 
         let y : map ν₁ ns ≡ map ν₂ ns' = cc in
         let z : k ≡ k' = cc in
         rw (verdict bs bs' ns ns' x y, z) (told (failing (numbersOf T₂) bounded bs' ns' 0 cs') bs bs' ns ns' k' x y)
-    of_answers (accepted bs ns k) (remaining ds' k') i = absurd (let z : ◌≡◌ {A = ℕ} 0 1 = cc in omega arith)
-    of_answers (accepted bs ns k) (stopped n' k') i = absurd (let z : ◌≡◌ {A = ℕ} 0 1 = cc in omega arith)
-    of_answers (remaining ds k) (accepted bs' ns' k') i = absurd (let z : ◌≡◌ {A = ℕ} 0 1 = cc in omega arith)
+    of_answers (accepted bs ns k) (remaining ds' k') i = absurd (cc)
+    of_answers (accepted bs ns k) (stopped n' k') i = absurd (cc)
+    of_answers (remaining ds k) (accepted bs' ns' k') i = absurd (cc)
     of_answers (remaining ds k) (remaining ds' k') i =
         let x : map (mapCon ν₁) ds ≡ map (mapCon ν₂) ds' = cc in
         let z : k ≡ k' = cc in
         ap₂ (λ (es : List (Con Name)) (n : ℕ). leaves es n) x z
-    of_answers (remaining ds k) (stopped n' k') i = absurd (let z : ◌≡◌ {A = ℕ} 0 1 = cc in omega arith)
-    of_answers (stopped n k) (accepted bs' ns' k') i = absurd (let z : ◌≡◌ {A = ℕ} 0 1 = cc in omega arith)
-    of_answers (stopped n k) (remaining ds' k') i = absurd (let z : ◌≡◌ {A = ℕ} 0 1 = cc in omega arith)
+    of_answers (remaining ds k) (stopped n' k') i = absurd (cc)
+    of_answers (stopped n k) (accepted bs' ns' k') i = absurd (cc)
+    of_answers (stopped n k) (remaining ds' k') i = absurd (cc)
     of_answers (stopped n k) (stopped n' k') i =
         let x : n ≡ n' = cc in
         let z : k ≡ k' = cc in

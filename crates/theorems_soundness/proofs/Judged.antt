@@ -21,7 +21,7 @@ never : {A : Type 0} {n : ℕ} {a : A} → refused n ≡ got a → ⊥
 never e = got≢refused (sym e)
 
 opposite : got false ≡ got true → ⊥
-opposite e = let z : ◌≡◌ {A = ℕ} 0 1 = cc in omega arith
+opposite e = cc
 
 -- '6 counts as failure': what an answer stands for
 failed-yes : (r : Got Bool) → failed r ≡ got true → r ≡ got true

@@ -170,19 +170,19 @@ module _ {N : Type 0} (ν : Names N) where
           small = rw b at h.small;
           flat = rw b at h.flat;
         }
-    finished-within (c ∷ cs) k s h e = let z : ◌≡◌ {A = ℕ} 0 1 = cc in absurd (omega arith)
+    finished-within (c ∷ cs) k s h e = absurd (cc)
 
     after-within : (k : ℕ) (s : State N) → Fine s → (more : State N → Answer N)
         → ((s' : State N) → Fine s' → more s' ≡ accepted bs ns j → Within bs ns) → (r : Got (Option (State N))) → round ν bounded s ≡ r
         → after ν r k s more ≡ accepted bs ns j → Within bs ns
     unfolding after finish
-    after-within k s h more again (refused n) i e = let z : ◌≡◌ {A = ℕ} 0 1 = cc in absurd (omega arith)
+    after-within k s h more again (refused n) i e = absurd (cc)
     after-within k s h more again (got none) i e = finished-within _ k s h e
     after-within k s h more again (got (some s')) i e = again s' (flat-fine s' (round-flat s s' i)) e
 
     run-within : (f k : ℕ) (s : State N) → Fine s → run ν bounded f k s ≡ accepted bs ns j → Within bs ns
     unfolding run
-    run-within zero k s h e = let z : ◌≡◌ {A = ℕ} 0 1 = cc in absurd (omega arith)
+    run-within zero k s h e = absurd (cc)
     run-within (suc f) k s h e = after-within k s h (λ s'. run ν bounded f (suc k) s') (λ s' g i. run-within f (suc k) s' g i) (round ν bounded s) refl e
 
     pub answer-within : (cs : List (Con N)) → length cs ≤ 2048 → solve ν bounded cs ≡ accepted bs ns j → Within bs ns

@@ -1,6 +1,6 @@
 -- The theorems for the calls on words: what a call checks is what the theorems ask.
 use Rattle.std.proofs.Math.Path.{◌≡◌, refl, ap}
-use Rattle.std.proofs.Common.{◌∙◌, arith}
+use Rattle.std.proofs.Common.{◌∙◌}
 use Rattle.std.specs.Prelude.{Bool, false, List, [], ◌∷◌, ◌++◌, ℕ, length}
 use Rattle.std.proofs.Math.Bool.{true}
 use Rattle.rules.specs.Base.{Got, got, refused, ◌>>◌, need, bounded, collect, sum_of}
@@ -103,9 +103,9 @@ module _ (pool table set : List ℕ) where
   solve-call result work r b k e = go (lent pool table result work >> solvedSet t set) refl
     where
       go : (m : Got (Answer ℕ)) → (lent pool table result work >> solvedSet t set) ≡ m → SoundAnswer pool table set result work r b k
-      go (refused n) i = let z : refusedAfter n 0 ≡ solved r b k = rw i at e in let y : ◌≡◌ {A = ℕ} 0 1 = cc in absurd (omega arith)
-      go (got (remaining cs j)) i = let z : solvedOf (got (remaining cs j)) ≡ solved r b k = rw i at e in let y : ◌≡◌ {A = ℕ} 0 1 = cc in absurd (omega arith)
-      go (got (stopped n j)) i = let z : refusedAfter n j ≡ solved r b k = rw i at e in let y : ◌≡◌ {A = ℕ} 0 1 = cc in absurd (omega arith)
+      go (refused n) i = let z : refusedAfter n 0 ≡ solved r b k = rw i at e in absurd (cc)
+      go (got (remaining cs j)) i = let z : solvedOf (got (remaining cs j)) ≡ solved r b k = rw i at e in absurd (cc)
+      go (got (stopped n j)) i = let z : refusedAfter n j ≡ solved r b k = rw i at e in absurd (cc)
       go (got (accepted bs ns j)) i =
           let z : solved (sum_of sizeBinding bs) (length ns) j ≡ solved r b k = rw i at e in
           let a = bound-step (lent pool table result work) _ (accepted bs ns j) i in

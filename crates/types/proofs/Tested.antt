@@ -1,14 +1,14 @@
 -- The tests of a list over a name table: where one of them refuses, so does the whole; where all are passed, what the list holds is there.
-use Rattle.std.specs.Prelude.{Result, Ok, Err, IfOk, ◌≡◌, refl, Bool, true, false, ◌&&◌, List, [], ◌∷◌, ℕ, ◌%◌, ◌≤◌, ◌<◌, eqb, leb, length}
+use Rattle.std.specs.Prelude.{Result, Ok, Err, IfOk, ◌≡◌, refl, Bool, true, ◌&&◌, List, [], ◌∷◌, ℕ, ◌%◌, ◌≤◌, ◌<◌, eqb, length}
 use Rattle.std.proofs.Common.{sym, ap, ap₂, subst, ◌∙◌, le-leb}
 use Rattle.std.proofs.lemmas.Bool.{lt-leb}
-use borrow.Author.Tests.{leb-true, eqb-true}
+use borrow.Author.Tests.{eqb-true}
 use Rattle.rules.specs.Base.{Got, got, refused, ◌>>=◌, ◌>>◌, need, all}
 use Rattle.rules.specs.Calls.{shortLists, tableKept}
 use Rattle.rules.specs.Names.{Table, table_of, tableGiven, lentTable}
 use Rattle.rules.specs.Refusals.{number_of, told, toldBy}
 use Rattle.rules.specs.declared.Refusal.{Refusal}
-use Rattle.laws.proofs.Checks.{need-passed}
+use Rattle.laws.proofs.Checks.{need-passed, first-passed, next-passed, list-short}
 use Rattle.laws.specs.Lists.{and_left, and_right}
 use Rattle.laws.proofs.Lists.{clash, refused-before}
 use Rattle.names.specs.Told.{unit_of}
@@ -64,12 +64,8 @@ module _ (ws : List ℕ) where
   too_long h = sym (rw (lt-leb (length ws) 8192 h))
 
   short-enough : {A : Type 0} (a : A) (m : Got A) → got a ≡ (shortLists (ws ∷ []) >> m) → (length ws ≤ 8192) × (m ≡ got a)
-  unfolding shortLists all
-  short-enough a m e = go (leb (length ws) 8192) refl e
-    where
-      go : (b : Bool) → leb (length ws) 8192 ≡ b → got a ≡ (need (b && true) 8 >> m) → (length ws ≤ 8192) × (m ≡ got a)
-      go true q h = (leb-true (length ws) 8192 q, sym h)
-      go false q h = clash (sym h)
+  short-enough a m e =
+      let s = sym e in (list-short ws (first-passed m a (shortLists (ws ∷ [])) s), next-passed m a (shortLists (ws ∷ [])) s)
 
   -- a list of whole records that passed
   pub whole : (b : Bool) → got tt ≡ need (eqb (length ws % 4) 0 && b) 1 → (length ws % 4 ≡ 0) × (b ≡ true)
