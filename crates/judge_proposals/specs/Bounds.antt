@@ -1,7 +1,7 @@
 -- Bounds with names, one a record.
 use Rattle.std.specs.Prelude.{length}
 use mathlib.Core.List.{List}
-use Prim.Native.Nat.{ℕ, ◌-◌, ◌/◌}
+use Prim.Native.Nat.{ℕ, ◌/◌}
 use Rattle.rules.specs.Trees.{Open}
 use Rattle.records.specs.Good.{Chain, GoodBound}
 

@@ -7,9 +7,8 @@ use Rattle.std.proofs.Math.Option.{some, none}
 use Rattle.std.proofs.Math.Decide.{dec_le}
 use Rattle.std.proofs.Math.Seq.{length-sets}
 use Rattle.std.proofs.lemmas.List.Edits.{sets}
-use Rattle.rules.specs.Base.{Got, got, refused, ◌>>=◌, bounded, all, collect, sum_of}
+use Rattle.rules.specs.Base.{Got, got, refused, bounded, all, collect, sum_of}
 use Rattle.rules.specs.Judging.{failed, failing, judgeCon}
-use Rattle.rules.specs.Meaning.{holds}
 use Rattle.rules.specs.Names.{table_of, names_of}
 use Rattle.rules.specs.Refusals.{number_of, told}
 use Rattle.rules.specs.Replacing.{Look, bindings}

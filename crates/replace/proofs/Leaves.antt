@@ -1,6 +1,6 @@
 -- What follows from the definitions of specs/Leaves: what a walk leaves behind a writer.
 use Rattle.std.specs.Prelude.{ℕ}
-use Rattle.rules.specs.Trees.{Fields, sizeTys, sizeFields}
+use Rattle.rules.specs.Trees.{sizeTys, sizeFields}
 use Rattle.replace.specs.declared.inner.walk.Parts.{Parts}
 use Rattle.replace.specs.declared.inner.walk.Parts.TheVariants as parts
 

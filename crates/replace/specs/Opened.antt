@@ -3,7 +3,6 @@ use Rattle.std.specs.Prelude.{ℕ}
 use Rattle.std.proofs.Math.Option.{Option, none, some}
 use Rattle.rules.specs.Trees as trees
 use Rattle.rules.specs.Trees.{◌↑◌}
-use Rattle.products.specs.declared.Factor.{Factor}
 
 -- the open name of a factor; a base dimension has none
 abbrev pub open_in : trees.Factor ℕ → Option (trees.Open ℕ)

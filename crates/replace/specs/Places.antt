@@ -1,5 +1,5 @@
 -- What open names become: a table of places, a word for each name, before a list of words in which the types stand.
-use Rattle.std.specs.Prelude.{◌≡◌, Bool, ◌&&◌, eqb, cond, List, ℕ, ◌+◌, ◌-◌, ◌≤◌, ltb, get_or}
+use Rattle.std.specs.Prelude.{◌≡◌, Bool, ◌&&◌, eqb, cond, List, ℕ, ◌+◌, ◌≤◌, ltb, get_or}
 use Rattle.std.proofs.Math.Option.{Option, none, some}
 use Rattle.rules.specs.Replacing.{Look}
 use Rattle.rules.specs.Trees.{Open, var, quant, par, Ty, size}

@@ -1,5 +1,5 @@
 -- What a table of places says the names become: one thing each, in one way.
-use Rattle.std.specs.Prelude.{◌≡◌, List, ℕ, ◌+◌, ◌-◌, ◌≤◌, length}
+use Rattle.std.specs.Prelude.{◌≡◌, List, ℕ, ◌+◌, ◌≤◌, length}
 use Rattle.std.proofs.Common.{ap, subst, arith, refl}
 use Rattle.std.proofs.Math.Option.{Option, none, some}
 use Rattle.std.proofs.Props.{props}

@@ -1,7 +1,7 @@
 -- What the arms of a match on a shape, and on a verdict, leave.
 use Rattle.std.specs.Prelude.{◌≡◌, false, not, ◌&&◌, ℕ, eqb, refl}
 use Rattle.std.specs.Prelude as maybe
-use Rattle.std.proofs.Common.{arith, ap, sym, ◌∙◌}
+use Rattle.std.proofs.Common.{ap, sym, ◌∙◌}
 use Rattle.std.proofs.Math.Bool.{and-false}
 use Rattle.std.proofs.Math.Option.{Option, none, some}
 use Rattle.rules.specs.Adding.{satisfied, countsDiffer, solid}
