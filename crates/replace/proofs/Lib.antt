@@ -16,5 +16,4 @@ mod Touches
 mod Unsaid
 pub mod Walks
 pub mod Well
-pub mod Writes
 pub mod Written

@@ -40,7 +40,7 @@ use Rattle.laws.proofs.KnownNames.{Known, con-known}
 use Rattle.laws.specs.Lists.{Every}
 use Rattle.laws.proofs.SortedNames.{sort-few}
 use Rattle.laws.proofs.Size.{set-length, bindings-length}
-use Rattle.laws.proofs.Size.{words-length}
+use Rattle.laws.proofs.Size.{words-length, words_append}
 use Rattle.records.proofs.Buffers.{stored}
 use Rattle.records.specs.Good.{Chain, goodCon, numbers, holding}
 use Rattle.records.proofs.Held.{shown, parted}
@@ -55,13 +55,13 @@ use Rattle.queries.proofs.ScanLaws.{con-opens, chain-opens}
 use Rattle.queries.specs.Scans.{choose, opensIn}
 use Rattle.queries.specs.declared.Kind.TheVariants.{Both}
 use Rattle.replace.proofs.Kept.{cons-weaker, binds-weaker}
-use Rattle.replace.proofs.Writes.{words_append, writes}
 use Rattle.replace.proofs.Written.{written-cons, binds-held}
 use Rattle.solve_round.specs.States.{StateHeld}
 use Rattle.solve_round.specs.declared.Place.{Place}
 use Rattle.types.proofs.Puts.{binds-words as bound-words}
 use Rattle.types.specs.Sets.{IsCons, Cons, con-some, one-set}
 use Rattle.types.proofs.OnSets.{HoldsCons}
+use Rattle.types.proofs.Written.{writes}
 use Rattle.types.specs.Runs.{HoldsEach}
 use Rattle.solve_finish.specs.declared.Finish.TheVariants.{Solved as Bound, Unsolved}
 use Rattle.solve_finish.specs.Told.{others, boundRec, bounds, Copied, Accepted, Finished}
@@ -233,8 +233,8 @@ module _ (pool table s : List ℕ) (p : Place) (st : State ℕ) (h : StateHeld p
     accepted-as d d₁ d₂ room p q =
         let A = collect writeBinding st.binds in
         let B = map boundRec (bounds pool table st) in
-        let z : (0 + (m - n)) * 4 ≡ (m - n) * 4 = omega arith in
-        let w : d₂ ≡ sets d 0 (words (A ++ B)) = writes d d₁ d₂ A B (m - n) 0 binds-length (p ∙ ap (sets d 0) binds-words)
+        let z : (0 + length A) * 4 ≡ (m - n) * 4 = omega (arith, binds-length) in
+        let w : d₂ ≡ sets d 0 (words (A ++ B)) = writes d d₁ d₂ A B 0 (p ∙ ap (sets d 0) binds-words)
         (rw z (q ∙ ap (λ (l : List ℕ). sets d₁ ((m - n) * 4) (words (map boundRec l))) listed-front)) in
         let a = binds-in in
         let i = length-map (bounds pool table st) boundRec in
