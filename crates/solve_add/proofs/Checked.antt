@@ -1,5 +1,5 @@
 -- The checks at entry, one after another.
-use Rattle.std.specs.Prelude.{Result, IfOk, ◌≡◌, refl, Bool, true, false, not, List, ◌∷◌, ℕ, ◌*◌, ◌≤◌, ◌<◌, leb, length, take}
+use Rattle.std.specs.Prelude.{Result, Ok, Err, IfOk, ◌≡◌, refl, Bool, true, false, not, List, ◌∷◌, ℕ, ◌*◌, ◌≤◌, ◌<◌, leb, length, take}
 use Rattle.std.proofs.Common.{sym, ap, ◌∙◌, arith, le-leb, length-take-le}
 use Rattle.std.proofs.lemmas.Bool.{lt-leb}
 use borrow.Author.Tests.{leb-true}
@@ -19,6 +19,11 @@ use Rattle.types.specs.Given.{over_table, set_over}
 use Rattle.types.specs.Sets.{placed}
 use Rattle.types.proofs.OnSets.{alone, placed-alone}
 use Rattle.solve_add.specs.Entry.{one_over, passing, lentBuffer, oneGiven, checks}
+
+-- what holds anyway holds where there is an answer
+pub if-given : {A E P : Type 0} (r : Result A E) → P → IfOk r (λ a. P)
+if-given (Ok a) p = p
+if-given (Err e) p = tt
 
 -- ══ One constraint ══
 

@@ -1,11 +1,12 @@
 //! The checks at entry, and the storing.
 pub mod testing;
 
-ghost use Rattle.std.specs.Prelude.{◌≡◌, List, ℕ};
+ghost use Rattle.std.specs.Prelude.{◌≡◌, List, ℕ, IfOk};
 ghost use Rattle.rules.specs.Base.{need};
 ghost use Rattle.rules.specs.Names.{Bytes, numbered};
 ghost use Rattle.rules.specs.Refusals.{toldBy};
 ghost use Rattle.rules.specs.Trees.{Con};
+ghost use Rattle.records.specs.Found.{Words32};
 ghost use Rattle.solve_add.specs.Told.{addedAs};
 ghost use Rattle.solve_add.specs.Entry.{checks, constraint_in, lentBuffer, one_over};
 ghost use Rattle.solve_add.specs.Stored.{Ready, addedWith};
@@ -67,7 +68,7 @@ fn one_constraint<'a>(
     }
 }
 
-/// The checks at entry: 10, 8, 1; and the constraint.
+/// The checks at entry: 10, 8, 1; and the constraint. Where they are met, what the buffer holds is words of 32 bits.
 pub fn check<'a>(
     pool: &'a [u8],
     table: &'a [u32],
@@ -75,7 +76,8 @@ pub fn check<'a>(
     count: usize,
     con: &'a [u32],
 ) -> Result<Constraint<'a>, Refusal>
-    ensures { toldBy constraint_in result ≡ checks pool.now table.now buffer.now count con.now }
+    ensures answer { toldBy constraint_in result ≡ checks pool.now table.now buffer.now count con.now }
+    ensures words { IfOk result (λ c. Words32 buffer.now) }
 {
     if !lent(pool, table, buffer) {
         return Err(Refusal::ShortBuffer);

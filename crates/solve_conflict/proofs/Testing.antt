@@ -3,6 +3,7 @@ use Rattle.std.specs.Prelude.{Result, Ok, Err, ◌≡◌, refl, Bool, true, fals
 use Rattle.std.proofs.Common.{ap, sym, subst, ◌∙◌, arith, append-nil, take_at}
 use Rattle.std.proofs.lemmas.List.Edits.{sets, sets-eq}
 use Rattle.std.proofs.Math.ListN.{drop_of_length-le}
+use Rattle.std.proofs.Math.Seq.{length-sets}
 use Rattle.rules.specs.Base.{got, refused, bounded, all, keep, collect, sum_of, max_of}
 use Rattle.rules.specs.Calls.{solved, unsolved, refusedAfter, solvedOf}
 use Rattle.rules.specs.Choices.{wide}
@@ -98,12 +99,20 @@ module _ (pool table : List ℕ) where
         ∙ sets-eq written w.words.now 0 (omega (arith, long, f.small, room)) in
         ap (take (w'.at * 4)) e ∙ take_at written left (w'.at * 4) (omega (arith, long, ends))
 
+    pub within : w'.at * 4 ≤ length w'.words.now
+    within = omega (
+      arith,
+      many,
+      ap length (h.words (omega (arith, count, f.small, z))) ∙ length-sets w.words.now (w.at * 4) written,
+      room,
+    )
+
     own : written ≡ sets written 0 written
     own = sym (sets-eq written written 0 (omega arith) ∙ ap (λ (x : List ℕ). written ++ x) (drop_of_length-le {A = ℕ} written (omega arith))
         ∙ append-nil written)
 
-    pub ready : {d : List ℕ} {k : ℕ} → d ≡ w'.words.now → k ≡ w'.at * 4 → Begun pool table (take k d) ds
-    ready i j = rw (i, j, front) (record {
+    pub ready : {k : ℕ} → k ≡ w'.at * 4 → Begun pool table (take k w'.words.now) ds
+    ready j = rw (j, front) (record {
       held = let e : 0 + sum_of sizeCon ds ≡ length written / 4 = omega (arith, long) in
           subst (λ (k : ℕ). IsCons written 0 k ds) e
           (written-cons pool table written written 0 ds own (omega (arith, long)) (cons-weaker pool table ds f.good));

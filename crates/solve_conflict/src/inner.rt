@@ -149,7 +149,7 @@ impl<'a> Lines<'a> {
         let n = out.at;
         let end = n * 4;
         let mut res = [0u32; RECORD_WORDS];
-        match run(self.set.names, &tested[0..end], &mut res, work).outcome {
+        match run(self.set.names, &out.words[..end], &mut res, work).outcome {
             Ok(Finish::Solved(_, _)) => Ok(false),
             Ok(Finish::Unsolved(_)) => Ok(true),
             Err(why) => Err(why),

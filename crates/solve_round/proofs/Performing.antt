@@ -48,9 +48,11 @@ use Rattle.types.specs.Sets.{Cons, IsCons, one-set}
 use Rattle.types.specs.Runs.{HoldsEach}
 use Rattle.solve_round.specs.declared.Others.{Others}
 use Rattle.solve_round.specs.declared.After.{After}
+use Rattle.solve_round.specs.declared.Place.{Place}
 use Rattle.solve_round.specs.Parts.{appends, First, Next, Taken}
-use Rattle.solve_round.specs.Standing.{Rounds, rounded}
-use Rattle.solve_round.specs.States.{SoundSet, Turn}
+use Rattle.solve_round.specs.Standing.{Standing, StandsAs, stateOf, Rounds, rounded}
+use Rattle.solve_round.specs.States.{Idle, SoundSet, SoundBinds, Turn}
+use Rattle.solve_round.proofs.Limits.{sound-parts}
 use Rattle.solve_round.proofs.Written.{rounded-as}
 
 -- ══ A binding takes no more room than the constraint it comes from ══
@@ -210,14 +212,43 @@ appends-same {pool} {table} {w} {w'} {r} o {s} {end} {cs} {ds} h n f k =
     let e = set-same s 0 end cs h ds k in
     subst (λ (xs : List (Con ℕ)). Next pool table w w' r (appends o xs)) e (f (subst (SoundSet pool table) (sym e) n))
 
--- so is what a round makes of the state that they are, and the buffer is told by what it came to
-pub rounded-over : (n : NameTable) {s : List ℕ} {at mid end last : ℕ} {st : State ℕ} {front left : List (Con ℕ)} → st.cons ≡ front ++ left
-    → IsCons s at mid front → IsCons s mid end left → IsBinds s end last st.binds
-    → {before behind : List (Con ℕ)} {bs : List (Binding ℕ)} {w w' : List ℕ} {r : Result After Refusal}
-    → Rounds n s w r (rounded n (record { cons = before ++ behind; binds = bs })) → w' ≡ w
-    → IsCons s at mid before → IsCons s mid end behind → IsBinds s end last bs → Rounds n s w' r (rounded n st)
-rounded-over n {s} {at} {mid} {end} {last} {st} {front} {left} i a b d {before} {behind} {bs} {w} {w'} {r} t e p q k =
-    let cons : st.cons ≡ before ++ behind = i ∙ sym (ap₂ ◌++◌ (set-same s at mid front a before p) (set-same s mid end left b behind q)) in
-    let binds : st.binds ≡ bs = sym (binds-same s end last st.binds d bs k) in
+-- so the state that stands at a place is that of the three parts that stand there
+pub stands-as : (n : NameTable) (s : List ℕ) (p : Place) (st : State ℕ) → Standing n s p st → (o : Others)
+    → o.before.words.now ≡ s → o.before.at ≡ p.start → o.before.end ≡ p.stuck
+    → o.behind.words.now ≡ s → o.behind.at ≡ p.stuck → o.behind.end ≡ p.ends.constraints
+    → o.bindings.words.now ≡ s → o.bindings.at ≡ p.ends.constraints → o.bindings.end ≡ p.ends.bindings → StandsAs n s o st
+stands-as n s p st h o w₁ a₁ e₁ w₂ a₂ e₂ w₃ a₃ e₃ =
+    let pool = n.pool.now in
+    let table = n.table.now in
+    let before : o.before.trees.0 ≡ h.front.passed = set-same s p.start p.stuck h.front.passed h.front.there o.before.trees.0
+    (rw (w₁, a₁, e₁) at o.before.trees.1) in
+    let behind : o.behind.trees.0 ≡ h.front.left = set-same s p.stuck p.ends.constraints h.front.left h.front.stay o.behind.trees.0
+    (rw (w₂, a₂, e₂) at o.behind.trees.1) in
+    let bindings : o.bindings.trees.0 ≡ st.binds = binds-same s p.ends.constraints p.ends.bindings st.binds h.held.binds o.bindings.trees.0
+    (rw (w₃, a₃, e₃) at o.bindings.trees.1) in
+    let parts = sound-parts pool table h.front.passed h.front.left (subst (SoundSet pool table) h.front.are h.held.sound_cons) in
+    record {
+      sound = record {
+        sound = record {
+          before = subst (SoundSet pool table) (sym before) parts.0;
+          behind = subst (SoundSet pool table) (sym behind) parts.1;
+          bindings = subst (SoundBinds pool table) (sym bindings) h.held.sound_binds;
+        };
+        idle = subst (Idle pool table) (sym before) h.front.idle;
+        short = omega (arith, e₃, h.held.short);
+        same = w₁ ∙ sym w₂;
+        joined = e₁ ∙ sym a₂;
+        same_bindings = w₃ ∙ sym w₂;
+        joined_bindings = a₃ ∙ sym e₂;
+      };
+      words = w₂;
+      is = ap₂ (λ (cs : List (Con ℕ)) (bs : List (Binding ℕ)). record { cons = cs; binds = bs }) (ap₂ ◌++◌ before behind ∙ sym h.front.are) bindings;
+    }
+
+-- and what a round makes of the parts it makes of the state; the buffer is told by what it came to
+pub rounded-over : (n : NameTable) (o : Others) {s : List ℕ} {st : State ℕ} → StandsAs n s o st → {w w' : List ℕ} {r : Result After Refusal}
+    → Rounds n o.behind.words.now w r (rounded n (stateOf o)) → w' ≡ w → Rounds n s w' r (rounded n st)
+rounded-over n o {s} {st} h {w} {w'} {r} t e =
     subst (λ (v : List ℕ). Rounds n s v r (rounded n st)) (sym e)
-    (rounded-as (ap₂ (λ (cs : List (Con ℕ)) (xs : List (Binding ℕ)). rounded n (record { cons = cs; binds = xs })) cons binds) t)
+    (subst (λ (v : List ℕ). Rounds n v w r (rounded n st)) h.words
+    (rounded-as (sym (ap (rounded n) h.is)) t))

@@ -44,6 +44,12 @@ module _ (t : NameTable) where
     pub same_bindings : o.bindings.words.now ≡ o.behind.words.now
     pub joined_bindings : o.bindings.at ≡ o.behind.end
 
+  -- which is this one, and stands in the list s
+  pub record StandsAs (s : List ℕ) (o : Others) (st : State ℕ) : Type 0 where
+    pub sound : SoundState o
+    pub words : o.behind.words.now ≡ s
+    pub is : stateOf o ≡ st
+
   -- with a new binding put in
   abbrev pub rebound : Others → ℕ → Ty ℕ → Got (Option (State ℕ))
   rebound o x u = rebinds t.pool.now t.table.now (others o) x u o.bindings.trees.0

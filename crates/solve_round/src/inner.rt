@@ -4,9 +4,10 @@ ghost use Rattle.rules.specs.Base.{collect, each};
 ghost use Rattle.rules.specs.Rounds.{State};
 ghost use Rattle.rules.specs.Trees.{Ty, Con, ◌≔◌};
 ghost use Rattle.rules.specs.Writing.{writeCon};
+ghost use Rattle.names.specs.declared.tables.NameTable.{NameTable};
 ghost use Rattle.replace.specs.Leaves.{conBy, Leaves};
 ghost use Rattle.solve_round.specs.Parts.{appends, Are, Beside, BoundTo, First, Known, keeps, leaf, Limited, Made, Next, others, Puts, SoundOthers, SoundSet};
-ghost use Rattle.solve_round.specs.Standing.{performed, rebound, Rounds, rounded, SoundState, Standing, stateOf, TakenBy, Took};
+ghost use Rattle.solve_round.specs.Standing.{performed, rebound, Rounds, rounded, SoundState, Standing, StandsAs, stateOf, TakenBy, Took};
 ghost use Rattle.solve_round.specs.States.{stillStuck, written};
 
 use super::{After, Ends, Others, Place};
@@ -307,6 +308,34 @@ fn turn(
     Ok(After::Nowhere)
 }
 
+/// The state that stands at a place: the constraints to which no rule applies, those behind them, and the bindings.
+fn state_at<'a>(state: &'a [u32], place: Place) -> Others<'a>
+    requires standing { (t : NameTable) × (st : State ℕ) × Standing t state.now place st }
+    requires near { length state.now ≤ 4_000_000_000 }
+    ensures { (t : NameTable) (st : State ℕ) → Standing t state.now place st → StandsAs t state.now result st }
+{
+    let before = Constraints {
+        words: state,
+        at: place.start,
+        end: place.stuck,
+    };
+    let behind = Constraints {
+        words: state,
+        at: place.stuck,
+        end: place.ends.constraints,
+    };
+    let bindings = Bindings {
+        words: state,
+        at: place.ends.constraints,
+        end: place.ends.bindings,
+    };
+    Others {
+        before,
+        behind,
+        bindings,
+    }
+}
+
 /// One round on the state that stands at `place` in the list `state`: the state after it stands there too, or at the front of `next`, and it answers where.
 /// A refusal says nothing of `next`. `new` is room for what one step makes.
 pub fn round(
@@ -324,26 +353,7 @@ pub fn round(
     requires near { length next.old ≤ 4_000_000_000 }
     ensures { (st : State ℕ) → Standing names.entry state.now place st → Rounds names.entry state.now next.new result (rounded names.entry st) }
 {
-    let before = Constraints {
-        words: state,
-        at: place.start,
-        end: place.stuck,
-    };
-    let behind = Constraints {
-        words: state,
-        at: place.stuck,
-        end: place.ends.constraints,
-    };
-    let bindings = Bindings {
-        words: state,
-        at: place.ends.constraints,
-        end: place.ends.bindings,
-    };
-    let held = Others {
-        before,
-        behind,
-        bindings,
-    };
+    let held = state_at(state, place);
     let mut out = Writer { words: next, at: 0 };
     turn(names, held, new, &mut out)
 }

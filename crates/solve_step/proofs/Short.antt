@@ -166,20 +166,26 @@ module _ (pool table : List ℕ) where
       go (closed-struct x m as' fs t u o f h i) = omega (arith, ap long i, n, ap sizeCon h, field-long (numbers pool table) x fs u f)
 
 -- so the writer's count and buffer are those of the whole step
-pub stepped : (w w' : Writer) {r : Result Step Refusal} (R : Got (rules.Step ℕ)) → w.at ≤ 1_000_000_000
+writer-stepped : (w w' : Writer) {r : Result Step Refusal} (R : Got (rules.Step ℕ)) → w.at ≤ 1_000_000_000
     → ((s : rules.Step ℕ) → R ≡ got s → long s ≤ 1_000_000) → Applied w w' r R
     → Stepped w.words.now w'.words.now w.at r R
 unfolding words
-stepped w w' (got (rules.bind x t)) n m h =
+writer-stepped w w' (got (rules.bind x t)) n m h =
     let k = m (rules.bind x t) refl in
     let l = size-binding (x ≔ t) in
     let p = h.says.1 in
     record { says = (h.says.0 ∙ ap (λ (i : ℕ). Ok (Bind i)) (omega (arith, n, k, l, p.at)), p.words (omega (arith, n, k, l))) }
-stepped w w' (got (rules.split cs)) n m h =
+writer-stepped w w' (got (rules.split cs)) n m h =
     let k = m (rules.split cs) refl in
     let l = set-length cs in
     let p = h.says.1 in
     record { says = (h.says.0 ∙ ap (λ (i : ℕ). Ok (Split i)) (omega (arith, n, k, l, p.at)), p.words (omega (arith, n, k, l))) }
-stepped w w' (got rules.done) n m h = record { says = (h.says.0, h.says.1.words (omega (arith, n))) }
-stepped w w' (got rules.stuck) n m h = record { says = (h.says.0, h.says.1.words (omega (arith, n))) }
-stepped w w' (refused k) n m h = record { says = h.says }
+writer-stepped w w' (got rules.done) n m h = record { says = (h.says.0, h.says.1.words (omega (arith, n))) }
+writer-stepped w w' (got rules.stuck) n m h = record { says = (h.says.0, h.says.1.words (omega (arith, n))) }
+writer-stepped w w' (refused k) n m h = record { says = h.says }
+
+-- and so is a buffer that became the writer's
+pub stepped : (w w' : Writer) {r : Result Step Refusal} (R : Got (rules.Step ℕ)) → w.at ≤ 1_000_000_000
+    → ((s : rules.Step ℕ) → R ≡ got s → long s ≤ 1_000_000) → Applied w w' r R
+    → {d : List ℕ} → d ≡ w'.words.now → Stepped w.words.now d w.at r R
+stepped w w' {r} R n m h e = subst (λ (d : List ℕ). Stepped w.words.now d w.at r R) (sym e) (writer-stepped w w' R n m h)

@@ -7,18 +7,17 @@ use Rattle.solve_add.proofs.add.Goals as goal
 
 pub add_good-requires : goal.add_good-requires
 add_good-requires c =
-    let words : Words32 c.args.buffer.now = record { word = λ i. (c.slice_known-1.given i).fits } in
     let con-words : Words32 c.args.con.now = record { word = λ i. (c.type_inv.con i).fits } in
-    (_, ready _ _ _ _ _ _ (sym c.in_ok-constraint.ensures) words con-words)
+    let checked = c.in_ok-constraint.ensures in
+    (_, ready _ _ _ _ _ _ (sym checked.answer) checked.words con-words)
 
 pub returns : goal.returns
 returns c =
-    let words : Words32 c.args.buffer.now = record { word = λ i. (c.slice_known-1.given i).fits } in
     let con-words : Words32 c.args.con.now = record { word = λ i. (c.type_inv.con i).fits } in
-    let checked = sym c.in_ok-constraint.ensures in
-    c.add_good.ensures _ _ (ready _ _ _ _ _ _ checked words con-words) ∙ called _ _ _ _ _ _ checked
+    let checked = c.in_ok-constraint.ensures in
+    c.add_good.ensures _ _ (ready _ _ _ _ _ _ (sym checked.answer) checked.words con-words) ∙ called _ _ _ _ _ _ (sym checked.answer)
 
 pub returns-in_err-constraint : goal.returns-in_err-constraint
 returns-in_err-constraint c =
     let p = err_from_is_err_and c.from_residual.result c.from_residual.ensures.1 in
-    rw (p.1, p.2) (refusing _ _ _ _ _ _ c.in_err-constraint.ensures)
+    rw (p.1, p.2) (refusing _ _ _ _ _ _ c.in_err-constraint.ensures.answer)
