@@ -12,7 +12,7 @@ use Rattle.laws.specs.Lists.{and_left}
 use Rattle.records.specs.Found.{Words32}
 use Rattle.records.proofs.Whole.{entry-good}
 use Rattle.types.specs.Sets.{Cons, IsCons, one-set}
-use Rattle.judge.proofs.Rest.{set_there}
+use Rattle.judge.proofs.Rest.{constraints-stand}
 use Rattle.edition_certificates.specs.Proposals.{Proposed, ProposedBy}
 use Rattle.edition_certificates.specs.declared.inner.Proposal.{Proposal}
 
@@ -34,7 +34,7 @@ module _ (pool table s : List ℕ) (w : Words32 s) (e : setCall pool table s ≡
   read = let p = passed (aloneGiven pool table s) (setGiven (table_of pool table) s) e in (p.0, p.1.1)
 
   pub lines-stand : (ds : List (Con ℕ)) → setGiven (table_of pool table) s ≡ got ds → IsCons s 0 (length s / 4) ds
-  lines-stand ds g = (set_there pool table s [] ds []
+  lines-stand ds g = (constraints-stand pool table s [] ds []
       (record { good = entry-good pool table s alone; given = g; short = short; types-short = omega arith }) w).held
 
   -- whichever lines stand there, they are few, and those: what they propose, the certificate does

@@ -64,8 +64,8 @@ module _ (pool table set types : List ℕ) (cs : List (Con ℕ)) (es : List Entr
         (every_append _ (collect opensCon cs) (collect opensBinding bs)
         (set_known pool table 0 set cs 0 (length set / 4) (set_is pool table set w cs n.given)) (bindings-known bs g)) (good-laid n.good).few)
 
-    pub set_there : SetThere pool table set cs
-    set_there = let h = given-cons pool table set w cs n.given in record { held = h.0; good = h.1 }
+    pub constraints-stand : SetThere pool table set cs
+    constraints-stand = let h = given-cons pool table set w cs n.given in record { held = h.0; good = h.1 }
 
     module _ (bounds : List ℕ) (bs : List (Binding ℕ)) (given : entriesGiven (table_of pool table) es types ≡ got bs) where
       pub no-bounds : risingBounds (table_of pool table) bounds ≡ refused 1 → refused 1 ≡ judgedRest pool table es types bounds cs

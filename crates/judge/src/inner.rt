@@ -85,10 +85,10 @@ fn judge_rest(
     proposal: Proposal,
     work: &mut [u32],
 ) -> Result<bool, Refusal>
-    requires entered { (cs : List (Con ℕ)) × Entered names.pool.now names.table.now set.now proposal.types.now cs }
-    requires slotted { (es : List Entry) × Slotted es proposal.slots }
-    requires few { proposal.slots.count ≤ 2048 }
-    requires work_long { 16384 ≤ length work.old }
+    requires set_entered { (cs : List (Con ℕ)) × Entered names.pool.now names.table.now set.now proposal.types.now cs }
+    requires entries_slotted { (es : List Entry) × Slotted es proposal.slots }
+    requires few_entries { proposal.slots.count ≤ 2048 }
+    requires work_room { 16384 ≤ length work.old }
     ensures { (cs : List (Con ℕ)) (es : List Entry) → Entered names.entry.pool.now names.entry.table.now set.now proposal.entry.types.now cs
         → Slotted es proposal.entry.slots →
         told result ≡ judgedRest names.entry.pool.now names.entry.table.now es proposal.entry.types.now proposal.entry.bounds.now cs }
@@ -113,8 +113,8 @@ fn judge_set(
     proposal: Proposal,
     work: &mut [u32],
 ) -> Result<bool, Refusal>
-    requires slotted { (es : List Entry) × Slotted es proposal.slots }
-    requires work_long { 16384 ≤ length work.old }
+    requires entries_slotted { (es : List Entry) × Slotted es proposal.slots }
+    requires work_room { 16384 ≤ length work.old }
     ensures { (es : List Entry) → Slotted es proposal.entry.slots →
         told result ≡ judged_over names.entry set.now es proposal.entry.types.now proposal.entry.bounds.now }
 {
@@ -159,11 +159,11 @@ pub fn judge_found(
     found: Found,
     work: &mut [u32],
 ) -> Result<Option<usize>, Refusal>
-    requires set_there { (cs : List (Con ℕ)) × SetThere names.pool.now names.table.now set.now cs }
-    requires found_there { (bs : List (Binding ℕ)) × ((ns : List ℕ)
+    requires constraints_stand { (cs : List (Con ℕ)) × SetThere names.pool.now names.table.now set.now cs }
+    requires answer_stands { (bs : List (Binding ℕ)) × ((ns : List ℕ)
         × FoundThere names.pool.now names.table.now found.words.now found.bindings found.bounds bs ns) }
-    requires set_short { length set.now ≤ 8192 }
-    requires work_long { 8192 ≤ length work.old }
+    requires few_records { length set.now ≤ 8192 }
+    requires work_room { 8192 ≤ length work.old }
     ensures { (cs : List (Con ℕ)) (bs : List (Binding ℕ)) (ns : List ℕ) → SetThere names.entry.pool.now names.entry.table.now set.now cs
         → FoundThere names.entry.pool.now names.entry.table.now found.entry.words.now found.entry.bindings found.entry.bounds bs ns
         → FoundJudged names.entry.pool.now names.entry.table.now bs ns cs result }

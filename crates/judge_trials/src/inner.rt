@@ -31,7 +31,7 @@ fn stopped(why: Refusal) -> Result<bool, Refusal>
 
 // The constraint of n records at the start: is it short and flat enough, and is it true?
 fn test(names: NameTable, w: &[u32], n: usize, bounds: &NameSet) -> Result<bool, Refusal>
-    requires stands { (d : Con ℕ) × ConStands names.pool.now names.table.now w.now n d }
+    requires constraint_stands { (d : Con ℕ) × ConStands names.pool.now names.table.now w.now n d }
     ensures { (d : Con ℕ) (xs : List ℕ) → ConStands names.entry.pool.now names.entry.table.now w.now n d → Has bounds.now xs →
         told result ≡ tested names.entry.pool.now names.entry.table.now xs d }
 {
@@ -53,7 +53,7 @@ fn is_true(
 ) -> Result<bool, Refusal>
     requires good { goodCon by.names.pool.now by.names.table.now 0 c.tree.0 ≡ true }
     requires plain { Plain by }
-    requires work_long { 8192 ≤ length work.old }
+    requires work_room { 8192 ≤ length work.old }
     ensures { (bs : List (Binding ℕ)) (xs : List ℕ) → by.entry.lent.0 ≡ lookOf by.entry bs → Has bounds.now xs →
         told result ≡ judgedBy by.entry bs xs c.entry.tree.0 }
 {
@@ -79,11 +79,11 @@ pub fn first_failing(
     bounds: &NameSet,
     work: &mut [u32],
 ) -> Result<Option<usize>, Refusal>
-    requires there { (cs : List (Con ℕ)) × SetThere names.pool.now names.table.now set.now cs }
-    requires put { (bs : List (Binding ℕ)) × Put names.pool.now names.table.now places.now types.now bs }
-    requires marked { (xs : List ℕ) × Has bounds.now xs }
-    requires set_short { length set.now ≤ 8192 }
-    requires work_long { 8192 ≤ length work.old }
+    requires constraints_stand { (cs : List (Con ℕ)) × SetThere names.pool.now names.table.now set.now cs }
+    requires bindings_tabled { (bs : List (Binding ℕ)) × Put names.pool.now names.table.now places.now types.now bs }
+    requires bounds_marked { (xs : List ℕ) × Has bounds.now xs }
+    requires few_records { length set.now ≤ 8192 }
+    requires work_room { 8192 ≤ length work.old }
     ensures { (cs : List (Con ℕ)) (bs : List (Binding ℕ)) (xs : List ℕ) →
         SetThere names.entry.pool.now names.entry.table.now set.now cs
         → Put names.entry.pool.now names.entry.table.now places.now types.now bs → Has bounds.now xs →
@@ -118,11 +118,11 @@ pub fn try_all(
     bounds: &NameSet,
     work: &mut [u32],
 ) -> Result<bool, Refusal>
-    requires there { (cs : List (Con ℕ)) × SetThere names.pool.now names.table.now set.now cs }
-    requires put { (bs : List (Binding ℕ)) × Put names.pool.now names.table.now places.now types.now bs }
-    requires marked { (xs : List ℕ) × Has bounds.now xs }
-    requires set_short { length set.now ≤ 8192 }
-    requires work_long { 8192 ≤ length work.old }
+    requires constraints_stand { (cs : List (Con ℕ)) × SetThere names.pool.now names.table.now set.now cs }
+    requires bindings_tabled { (bs : List (Binding ℕ)) × Put names.pool.now names.table.now places.now types.now bs }
+    requires bounds_marked { (xs : List ℕ) × Has bounds.now xs }
+    requires few_records { length set.now ≤ 8192 }
+    requires work_room { 8192 ≤ length work.old }
     ensures { (cs : List (Con ℕ)) (bs : List (Binding ℕ)) (xs : List ℕ) →
         SetThere names.entry.pool.now names.entry.table.now set.now cs
         → Put names.entry.pool.now names.entry.table.now places.now types.now bs → Has bounds.now xs →

@@ -29,7 +29,7 @@ use Rattle.theorems_soundness.proofs.Form.{solved-form}
 use Rattle.theorems_soundness.proofs.Words.{numbers-ordered}
 use Rattle.judge_trials.specs.Trials.{SetThere}
 use Rattle.judge.specs.Found.{FoundThere, FoundJudged, JudgedAs, PlacedAs}
-use Rattle.judge.proofs.Rest.{set_there}
+use Rattle.judge.proofs.Rest.{constraints-stand}
 
 module _ (pool table set : List ℕ) where
   abbrev t : Table
@@ -118,7 +118,7 @@ module _ (pool table set : List ℕ) where
     p = o.passes
 
     pub stands : Words32 set → SetThere pool table set p.cs
-    stands w = set_there pool table set [] p.cs [] (record { good = p.good; given = p.read; short = p.short; types-short = omega arith }) w
+    stands w = constraints-stand pool table set [] p.cs [] (record { good = p.good; given = p.read; short = p.short; types-short = omega arith }) w
 
     pub judged : {r : Result (std.Option ℕ) Refusal} → FoundJudged pool table o.bs o.ns p.cs r → (cs : List (Con ℕ)) → setGiven t set ≡ got cs
         → JudgedAs (numbers pool table) cs (solvedSet t set) (toldBy is_none r)

@@ -8,37 +8,37 @@ use Rattle.judge.proofs.inner.judge_found.Goals as goal
 
 pub overflow_mul-from : goal.overflow_mul-from
 overflow_mul-from c =
-    let (bs, (ns, h)) = c.requires.found_there in
+    let (bs, (ns, h)) = c.requires.answer_stands in
     omega (arith, ends-in _ _ _ _ _ bs ns h, h.short)
 
 pub offset_bounds-found-from : goal.offset_bounds-found-from
 offset_bounds-found-from c =
-    let (bs, (ns, h)) = c.requires.found_there in
+    let (bs, (ns, h)) = c.requires.answer_stands in
     omega (arith, ends-in _ _ _ _ _ bs ns h, h.short)
 
 pub overflow_mul-to : goal.overflow_mul-to
 overflow_mul-to c =
-    let (bs, (ns, h)) = c.requires.found_there in
+    let (bs, (ns, h)) = c.requires.answer_stands in
     omega (arith, ends-in _ _ _ _ _ bs ns h, h.short)
 
 pub overflow_add-to : goal.overflow_add-to
 overflow_add-to c =
-    let (bs, (ns, h)) = c.requires.found_there in
+    let (bs, (ns, h)) = c.requires.answer_stands in
     omega (arith, ends-in _ _ _ _ _ bs ns h, h.short)
 
 pub slice_bounds-bound_names-end : goal.slice_bounds-bound_names-end
 slice_bounds-bound_names-end c =
-    let (bs, (ns, h)) = c.requires.found_there in
+    let (bs, (ns, h)) = c.requires.answer_stands in
     ends-in _ _ _ _ _ bs ns h
 
-pub first_failing-requires-clause-put : goal.first_failing-requires-clause-put
-first_failing-requires-clause-put c =
-    let (bs, (ns, h)) = c.requires.found_there in
+pub first_failing-requires-clause-bindings_tabled : goal.first_failing-requires-clause-bindings_tabled
+first_failing-requires-clause-bindings_tabled c =
+    let (bs, (ns, h)) = c.requires.answer_stands in
     (bs, put-in _ _ _ _ _ bs ns h (c.fill.ensures _ _ bs c.args.names.good (listed _ _ _ _ _ bs ns h)))
 
-pub first_failing-requires-clause-marked : goal.first_failing-requires-clause-marked
-first_failing-requires-clause-marked c =
-    let (bs, (ns, h)) = c.requires.found_there in
+pub first_failing-requires-clause-bounds_marked : goal.first_failing-requires-clause-bounds_marked
+first_failing-requires-clause-bounds_marked c =
+    let (bs, (ns, h)) = c.requires.answer_stands in
     (ns, marked _ _ _ _ _ bs ns h (c.bound_names-allowed.ensures c.args.names.pool.now c.args.names.table.now (map (λ n. var n) ns)))
 
 pub returns : goal.returns

@@ -10,10 +10,15 @@ pub judge_rest-requires : goal.judge_rest-requires
 judge_rest-requires c =
     let a = c.args in
     let s = c.in_ok-given.given in
-    let (es, h) = c.requires.slotted in
+    let (es, h) = c.requires.entries_slotted in
     let i = came-in a.set.now a.proposal.types.now a.proposal.bounds.now es a.names s.names (constraints_in s) c.in_ok-given.ensures.same
     (c.in_ok-given.ensures.answer es h.many) in
-    record { entered = (constraints_in s, i.known); slotted = (es, h); few = omega (arith, h.many, i.few); work_long = c.requires.work_long }
+    record {
+      set_entered = (constraints_in s, i.known);
+      entries_slotted = (es, h);
+      few_entries = omega (arith, h.many, i.few);
+      work_room = c.requires.work_room;
+    }
 
 pub returns : goal.returns
 returns c = λ es h.

@@ -16,7 +16,7 @@ pub judge_set-answer-requires : goal.judge_set-answer-requires
 judge_set-answer-requires c =
     let e = sym c.lent.ensures ∙ ap (λ (b : Bool). need b 10) (c.if-not-lent.false) in
     let k = (all-lent c.args.pool.now c.args.table.now c.args.work.now e).1 in
-    record { slotted = c.requires; work_long = k }
+    record { entries_slotted = c.requires; work_room = k }
 
 pub returns : goal.returns
 returns c = λ es h.

@@ -5,7 +5,7 @@ use Rattle.judge_trials.proofs.Trials.{going_start, going_end, first-good, count
 use Rattle.judge_trials.proofs.inner.first_failing.Goals as goal
 
 pub invariant_of-c-items : goal.invariant_of-c-items
-invariant_of-c-items c = let (cs, h) = c.requires.there in record { near = omega (arith, c.requires.set_short); trees = (cs, h.held) }
+invariant_of-c-items c = let (cs, h) = c.requires.constraints_stand in record { near = omega (arith, c.requires.few_records); trees = (cs, h.held) }
 
 pub search-init : goal.search-init
 search-init c = (
@@ -16,13 +16,13 @@ search-init c = (
 
 pub is_true-requires-clause-good : goal.is_true-requires-clause-good
 is_true-requires-clause-good c =
-    let (cs, h) = c.requires.there in
-    let (bs, l) = c.requires.put in
-    let (xs, m) = c.requires.marked in
+    let (cs, h) = c.requires.constraints_stand in
+    let (bs, l) = c.requires.bindings_tabled in
+    let (xs, m) = c.requires.bounds_marked in
     first-good _ _ _ bs xs cs (c.search.invariant.1 cs bs xs h l m) _ _ (ap alone c.in-Some.ensures.steps)
 
 pub is_true-requires-clause-plain : goal.is_true-requires-clause-plain
-is_true-requires-clause-plain c = let (bs, l) = c.requires.put in plain-look _ _ _ _ bs l (search)
+is_true-requires-clause-plain c = let (bs, l) = c.requires.bindings_tabled in plain-look _ _ _ _ bs l (search)
 
 pub returns-in_err-is_true : goal.returns-in_err-is_true
 returns-in_err-is_true c = λ cs bs xs h l m.
@@ -37,10 +37,10 @@ returns-then-not-branch c = λ cs bs xs h l m.
 
 pub overflow_add-before : goal.overflow_add-before
 overflow_add-before c =
-    let (cs, h) = c.requires.there in
-    let (bs, l) = c.requires.put in
-    let (xs, m) = c.requires.marked in
-    omega (arith, count-few _ _ _ bs xs cs (c.search.invariant.1 cs bs xs h l m) _ _ (ap alone c.in-Some.ensures.steps), c.requires.set_short)
+    let (cs, h) = c.requires.constraints_stand in
+    let (bs, l) = c.requires.bindings_tabled in
+    let (xs, m) = c.requires.bounds_marked in
+    omega (arith, count-few _ _ _ bs xs cs (c.search.invariant.1 cs bs xs h l m) _ _ (ap alone c.in-Some.ensures.steps), c.requires.few_records)
 
 pub search-preserved : goal.search-preserved
 search-preserved c = (

@@ -14,9 +14,9 @@ pub test-requires : goal.test-requires
 test-requires c =
     let k = came c.in-Ok.is c.replace_constraint.ensures in
     record {
-      stands = (
+      constraint_stands = (
         k.value,
-        written c.args.by c.args.c.tree.0 c.requires.good c.requires.plain refl (length-take-le 8192 c.args.work.now c.requires.work_long) k,
+        written c.args.by c.args.c.tree.0 c.requires.good c.requires.plain refl (length-take-le 8192 c.args.work.now c.requires.work_room) k,
       );
     }
 
@@ -25,7 +25,7 @@ returns-in-Ok c = λ bs xs same m.
     let k = came c.in-Ok.is c.replace_constraint.ensures in
     tried c.args.by c.args.c.tree.0 bs same xs k _
     (c.test.ensures k.value xs
-    (written c.args.by c.args.c.tree.0 c.requires.good c.requires.plain refl (length-take-le 8192 c.args.work.now c.requires.work_long) k) m)
+    (written c.args.by c.args.c.tree.0 c.requires.good c.requires.plain refl (length-take-le 8192 c.args.work.now c.requires.work_room) k) m)
 
 pub returns-in-Err : goal.returns-in-Err
 returns-in-Err c = λ bs xs same m.

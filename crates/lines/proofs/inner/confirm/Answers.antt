@@ -8,7 +8,7 @@ use Rattle.lines.proofs.inner.confirm.Goals as goal
 pub judge_found-requires : goal.judge_found-requires
 judge_found-requires c =
     let (cs, h) = c.requires.stands in
-    record { set_there = (cs, h.there); found_there = c.requires.answered; set_short = h.short; work_long = omega (arith, c.requires.room) }
+    record { constraints_stand = (cs, h.there); answer_stands = c.requires.answered; few_records = h.short; work_room = omega (arith, c.requires.room) }
 
 pub put_type-requires : goal.put_type-requires
 put_type-requires c =

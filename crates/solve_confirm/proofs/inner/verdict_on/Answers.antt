@@ -6,23 +6,23 @@ use Rattle.solve_confirm.proofs.Own.{own, stands, judged, placed}
 use Rattle.solve_confirm.specs.Told.{VerdictOn}
 use Rattle.solve_confirm.proofs.inner.verdict_on.Goals as goal
 
-pub judge_found-requires-clause-set_there : goal.judge_found-requires-clause-set_there
-judge_found-requires-clause-set_there c =
+pub judge_found-requires-clause-constraints_stand : goal.judge_found-requires-clause-constraints_stand
+judge_found-requires-clause-constraints_stand c =
     let i : c.args.solution.outcome ≡ Ok c.in-Ok-Solved.field-0 = c.in-Ok-Solved.is in
     let o = own _ _ c.args.words.now c.args.rows.now c.args.solution (rw c.in-Ok.is at c.requires.stands) c.in-Ok.names.good c.requires.short
     (i ∙ ap Ok (rw i at c.in-Ok-Solved.field-0-is)) in
     let w : Words32 c.args.words.now = record { word = λ i. (c.type_inv.words i).fits } in
     (o.passes.cs, stands _ _ _ o w)
 
-pub judge_found-requires-clause-found_there : goal.judge_found-requires-clause-found_there
-judge_found-requires-clause-found_there c =
+pub judge_found-requires-clause-answer_stands : goal.judge_found-requires-clause-answer_stands
+judge_found-requires-clause-answer_stands c =
     let i : c.args.solution.outcome ≡ Ok c.in-Ok-Solved.field-0 = c.in-Ok-Solved.is in
     let o = own _ _ c.args.words.now c.args.rows.now c.args.solution (rw c.in-Ok.is at c.requires.stands) c.in-Ok.names.good c.requires.short
     (i ∙ ap Ok (rw i at c.in-Ok-Solved.field-0-is)) in
     (o.bs, (o.ns, o.found))
 
-pub judge_found-requires-clause-set_short : goal.judge_found-requires-clause-set_short
-judge_found-requires-clause-set_short c =
+pub judge_found-requires-clause-few_records : goal.judge_found-requires-clause-few_records
+judge_found-requires-clause-few_records c =
     let i : c.args.solution.outcome ≡ Ok c.in-Ok-Solved.field-0 = c.in-Ok-Solved.is in
     let o = own _ _ c.args.words.now c.args.rows.now c.args.solution (rw c.in-Ok.is at c.requires.stands) c.in-Ok.names.good c.requires.short
     (i ∙ ap Ok (rw i at c.in-Ok-Solved.field-0-is)) in
