@@ -6,7 +6,6 @@ use Rattle.std.proofs.Math.Bool.{true}
 use mathlib.Core.List.Memᴰ
 use mathlib.Core.List.{List, [], ◌∷◌, ◌++◌, Memᴰ}
 use Prim.Native.Nat.{Ordering}
-use native.Mathlib.Omega.{arith}
 use Rattle.rules.specs.Base.{bounded, collect}
 use Rattle.rules.specs.Trees.{
   Open,
@@ -102,20 +101,17 @@ module _ {N : Type 0} (Parameter : N → Type 0) (keys : List N) where
     pub apart : Memᴰ (var x) (opens t) → ⊥
 
 module _ {N : Type 0} where
-  -- the two sides of an equality
-  sides-on : (P : Open N → Type 0) (c : Con N) (s t : Ty N) → Sides c s t → All P (opensCon c) → All P (opens s) × All P (opens t)
-  unfolding opensCon
-  sides-on P c s t (inl i) h = let g : All P (opens s ++ opens t) = rw i at h
-      in (λ o m. g o (Memᴰ.append_left (opens t) m), λ o m. g o (Memᴰ.append_right (opens s) m))
-  sides-on P c s t (inr i) h = let g : All P (opens t ++ opens s) = rw i at h
-      in (λ o m. g o (Memᴰ.append_right (opens t) m), λ o m. g o (Memᴰ.append_left (opens s) m))
+  -- the two sides of an equality, whichever open names are taken of types and of constraints
+  sides-on : (inTy : Ty N → List (Open N)) (inCon : Con N → List (Open N)) → ((s t : Ty N) → inCon (equal s t) ≡ inTy s ++ inTy t)
+      → (P : Open N → Type 0) (c : Con N) (s t : Ty N) → Sides c s t → All P (inCon c) → All P (inTy s) × All P (inTy t)
+  sides-on inTy inCon both P c s t (inl i) h = let g : All P (inTy s ++ inTy t) = rw (i, both s t) at h
+      in (λ o m. g o (Memᴰ.append_left (inTy t) m), λ o m. g o (Memᴰ.append_right (inTy s) m))
+  sides-on inTy inCon both P c s t (inr i) h = let g : All P (inTy t ++ inTy s) = rw (i, both t s) at h
+      in (λ o m. g o (Memᴰ.append_right (inTy t) m), λ o m. g o (Memᴰ.append_left (inTy s) m))
 
   pub sides-in : (P : Open N → Type 0) (c : Con N) (s t : Ty N) → Sides c s t → All P (productsOf c) → All P (inProducts s) × All P (inProducts t)
   unfolding productsOf
-  sides-in P c s t (inl i) h = let g : All P (inProducts s ++ inProducts t) = rw i at h
-      in (λ o m. g o (Memᴰ.append_left (inProducts t) m), λ o m. g o (Memᴰ.append_right (inProducts s) m))
-  sides-in P c s t (inr i) h = let g : All P (inProducts t ++ inProducts s) = rw i at h
-      in (λ o m. g o (Memᴰ.append_right (inProducts t) m), λ o m. g o (Memᴰ.append_left (inProducts s) m))
+  sides-in = sides-on inProducts productsOf (λ s t. refl)
 
   both-sides : (P : Open N → Type 0) (s t : Ty N) → All P (opens s) → All P (opens t) → All P (opensCon (equal s t))
   unfolding opensCon
@@ -123,10 +119,23 @@ module _ {N : Type 0} where
 
   sides-equal : (Parameter : N → Type 0) (keys : List N) (c : Con N) (s t : Ty N) → Sides c s t → ConOk Parameter keys c
       → All (OpenOk Parameter keys) (opens s) × All (OpenOk Parameter keys) (opens t)
-  sides-equal Parameter keys c s t (inl i) h = let g : ConOk Parameter keys (equal s t) = rw i at h
-      in sides-on (OpenOk Parameter keys) (equal s t) s t (inl refl) g
-  sides-equal Parameter keys c s t (inr i) h = let g : ConOk Parameter keys (equal t s) = rw i at h
-      in sides-on (OpenOk Parameter keys) (equal t s) s t (inr refl) g
+  unfolding opensCon
+  sides-equal Parameter keys c s t i h = sides-on opens opensCon (λ s t. refl) (OpenOk Parameter keys) c s t i (of-equality c s t i h)
+    where
+      of-equality : (c : Con N) (s t : Ty N) → Sides c s t → ConOk Parameter keys c → All (OpenOk Parameter keys) (opensCon c)
+      of-equality c s t (inl i) h = rw i (rw i at h)
+      of-equality c s t (inr i) h = rw i (rw i at h)
+
+  -- the pairs of two rows, of whose types something holds that holds of an equality where it holds of its sides
+  pairs-on : (R : Con N → Type 0) (T : Ty N → Type 0) (Ts : Tys N → Type 0) → ((t : Ty N) (ts : Tys N) → Ts (cons t ts) → T t × Ts ts)
+      → ((s t : Ty N) → T s → T t → R (equal s t)) → (ts us : Tys N) → Ts ts → Ts us → All R (pairs ts us)
+  unfolding pairs
+  pairs-on R T Ts apart pair nil us h k = all_nil R
+  pairs-on R T Ts apart pair (cons t ts) nil h k = all_nil R
+  pairs-on R T Ts apart pair (cons t ts) (cons u us) h k =
+      let a = apart t ts h in
+      let b = apart u us k in
+      all_cons R (pair t u a.0 b.0) (pairs-on R T Ts apart pair ts us a.1 b.1)
 
 module _ {N : Type 0} (ν : Names N) (law : Lawful (orderAtom ν)) (held : N → Bool) (q : ℕ) where
   -- the first variable of a product stands nowhere else in it
@@ -139,7 +148,7 @@ module _ {N : Type 0} (ν : Names N) (law : Lawful (orderAtom ν)) (held : N →
       go : (a ≡ o) ⊎ Memᴰ a (collect openOfFactor p) → (Memᴰ a (collect openOfFactor p) → ⊥) → ⊥
       go (inl i) r =
           let s : orderAtom ν (free a) (free o) ≡ Ordering.eq = rw (sym i) (self law (free a)) in
-          let z : ◌≡◌ {A = ℕ} 0 1 = cc h.0 in omega arith
+          absurd (cc h.0)
       go (inr i) r = r i
 
   module _ (Parameter : N → Type 0) (keys : List N) (unbound : (y : N) → Parameter y → ¬ (Memᴰ y keys)) where
@@ -150,12 +159,9 @@ module _ {N : Type 0} (ν : Names N) (law : Lawful (orderAtom ν)) (held : N →
     OkCon = ConOk Parameter keys
 
     pairs-ok : (ts us : Tys N) → All Ok (opensTys ts) → All Ok (opensTys us) → All OkCon (pairs ts us)
-    unfolding pairs opens
-    pairs-ok nil us h k = all_nil OkCon
-    pairs-ok (cons t ts) nil h k = all_nil OkCon
-    pairs-ok (cons t ts) (cons u us) h k =
-        all_cons OkCon (both-sides Ok t u (λ o m. h o (Memᴰ.append_left (opensTys ts) m)) (λ o m. k o (Memᴰ.append_left (opensTys us) m)))
-        (pairs-ok ts us (λ o m. h o (Memᴰ.append_right (opens t) m)) (λ o m. k o (Memᴰ.append_right (opens u) m)))
+    unfolding opens
+    pairs-ok = pairs-on OkCon (λ t. All Ok (opens t)) (λ ts. All Ok (opensTys ts))
+        (λ t ts h. (λ o m. h o (Memᴰ.append_left (opensTys ts) m), λ o m. h o (Memᴰ.append_right (opens t) m))) (both-sides Ok)
 
     pub rule-open : (c : Con N) (s : Step N) → Rule ν bounded c s → goodCon ν held q c ≡ true → OkCon c → After (All OkCon) (BindOk Parameter keys) s
     unfolding opens opensCon goodCon collect
@@ -218,12 +224,9 @@ module _ {N : Type 0} (ν : Names N) (law : Lawful (orderAtom ν)) (held : N →
     both-in s t h k = all_append P (inProducts s) h k
 
     pairs-in : (ts us : Tys N) → All P (inProductsTys ts) → All P (inProductsTys us) → All InOk (pairs ts us)
-    unfolding pairs inProducts
-    pairs-in nil us h k = all_nil InOk
-    pairs-in (cons t ts) nil h k = all_nil InOk
-    pairs-in (cons t ts) (cons u us) h k =
-        all_cons InOk (both-in t u (λ o m. h o (Memᴰ.append_left (inProductsTys ts) m)) (λ o m. k o (Memᴰ.append_left (inProductsTys us) m)))
-        (pairs-in ts us (λ o m. h o (Memᴰ.append_right (inProducts t) m)) (λ o m. k o (Memᴰ.append_right (inProducts u) m)))
+    unfolding inProducts
+    pairs-in = pairs-on InOk (λ t. All P (inProducts t)) (λ ts. All P (inProductsTys ts))
+        (λ t ts h. (λ o m. h o (Memᴰ.append_left (inProductsTys ts) m), λ o m. h o (Memᴰ.append_right (inProducts t) m))) both-in
 
     pub rule-in : (c : Con N) (s : Step N) → Rule ν bounded c s → InOk c → After (All InOk) (λ x t. All P (inProducts t)) s
     unfolding opens inProducts productsOf collect
