@@ -6,27 +6,7 @@ use mathlib.Core.List.Memᴰ
 use Rattle.std.proofs.Math.Option.{some}
 use Rattle.rules.specs.Base.{got, bounded}
 use Rattle.rules.specs.Exponents.{frac}
-use Rattle.rules.specs.Trees.{
-  var,
-  base,
-  Factor,
-  ◌↑◌,
-  Ty,
-  opened,
-  basic,
-  dim,
-  struct,
-  nil,
-  noFields,
-  field,
-  boolean,
-  Con,
-  equal,
-  isDim,
-  is_scalar,
-  Binding,
-  ◌≔◌,
-}
+use Rattle.rules.specs.Trees.{var, base, Factor, ◌↑◌, Ty, opened, basic, dim, boolean, Con, equal, isDim, is_scalar, Binding, ◌≔◌}
 use Rattle.rules.specs.Replacing.{asProduct, find}
 use Rattle.rules.specs.Adding.{violated, addTest}
 use Rattle.rules.specs.Solving.{accepted, solve}
@@ -37,7 +17,7 @@ use Rattle.laws.specs.ByteOrder.{numbered-lawful}
 use Rattle.laws.specs.NameTable.{numbered-tells}
 use Rattle.laws.proofs.Lists.{some≢none, got≢refused}
 use Rattle.theorems_soundness.specs.Claims.{Ordered, Given}
-use Rattle.theorems_soundness.specs.Examples.{x, y, L, P, f, bytes, names, held, to, k10, k10-bindings}
+use Rattle.theorems_soundness.specs.Examples.{x, y, L, bytes, names, held, to, k10, k10-bindings, fields, product, products, products-bindings}
 
 pub ordered : Ordered names held
 unfolding rules names held
@@ -65,23 +45,6 @@ k8 = isDim (dim (to x (pos 1) ∷ to y (negsuc 0) ∷ [])) ∷ []
 
 abbrev pub k8-bounds : List ℕ
 k8-bounds = x ∷ y ∷ []
-
--- P without fields = P with a field f: boolean
-abbrev pub fields : Con ℕ
-fields = equal (struct P nil noFields) (struct P nil (field f (basic boolean) noFields))
-
--- x y = boolean, then y = scalar
-abbrev pub product-left : Ty ℕ
-product-left = dim (to x (pos 1) ∷ to y (pos 1) ∷ [])
-
-abbrev pub product : Con ℕ
-product = equal product-left (basic boolean)
-
-abbrev pub products : List (Con ℕ)
-products = product ∷ equal (opened (var y)) (dim []) ∷ []
-
-abbrev pub products-bindings : List (Binding ℕ)
-products-bindings = y ≔ dim [] ∷ x ≔ basic boolean ∷ []
 
 pub k2-accepted : solve names bounded k2 ≡ accepted k2-bindings [] 1
 unfolding rules names

@@ -22,19 +22,14 @@ use Rattle.theorems_soundness.proofs.Alike.{same-means}
 use Rattle.theorems_soundness.proofs.Runs as Runs
 use Rattle.theorems_soundness.proofs.Judged as Judged
 use Rattle.theorems_soundness.proofs.Unmet as Unmet
-use Rattle.theorems_soundness.specs.Examples.{names, held}
+use Rattle.theorems_soundness.specs.Examples.{names, held, fields, product-left, product, products, products-bindings}
 use Rattle.theorems_soundness.proofs.Instances.{
   ordered,
-  fields,
   fields-given,
   fields-accepted,
   fields-premise,
   fields-violated,
   fields-judged,
-  product-left,
-  product,
-  products,
-  products-bindings,
   products-given,
   products-accepted,
   products-no-premise,

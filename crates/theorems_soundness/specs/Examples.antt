@@ -1,7 +1,7 @@
--- The examples of the theorems: their names, and K10, x y = x z then x = boolean.
+-- The examples of the theorems: their names; K10, x y = x z then x = boolean; and two sets with a constraint that adding answers Violated.
 use Rattle.std.specs.Prelude.{Bool, List, [], ◌∷◌, ℕ, ltb, ℤ, pos}
 use Rattle.rules.specs.Exponents.{frac}
-use Rattle.rules.specs.Trees.{var, free, Factor, ◌↑◌, Names, opened, basic, dim, boolean, Con, equal, Binding, ◌≔◌}
+use Rattle.rules.specs.Trees.{var, free, Factor, ◌↑◌, Names, Ty, opened, basic, dim, struct, nil, noFields, field, boolean, Con, equal, Binding, ◌≔◌}
 use Rattle.rules.specs.Names.{Bytes, numbered}
 
 -- the names x, y, z, L, P and f, by their numbers
@@ -43,3 +43,20 @@ k10 = equal (dim (to x (pos 1) ∷ to y (pos 1) ∷ [])) (dim (to x (pos 1) ∷ 
 
 abbrev pub k10-bindings : List (Binding ℕ)
 k10-bindings = x ≔ basic boolean ∷ y ≔ dim (to z (pos 1) ∷ []) ∷ []
+
+-- P without fields = P with a field f: boolean
+abbrev pub fields : Con ℕ
+fields = equal (struct P nil noFields) (struct P nil (field f (basic boolean) noFields))
+
+-- x y = boolean, then y = scalar
+abbrev pub product-left : Ty ℕ
+product-left = dim (to x (pos 1) ∷ to y (pos 1) ∷ [])
+
+abbrev pub product : Con ℕ
+product = equal product-left (basic boolean)
+
+abbrev pub products : List (Con ℕ)
+products = product ∷ equal (opened (var y)) (dim []) ∷ []
+
+abbrev pub products-bindings : List (Binding ℕ)
+products-bindings = y ≔ dim [] ∷ x ≔ basic boolean ∷ []

@@ -14,7 +14,7 @@ use Rattle.rules.specs.Judging.{judge}
 use Rattle.rules.specs.Calls.{lentWork, solved, solveCall, addCall, Entry, judgeCall}
 use Rattle.theorems_soundness.specs.Claims.{Ordered, Given, SolvedForm, Fails, YesOrLimits, Proposes, pointed, bindingsIn, boundsIn, SoundAnswer, JudgedSet}
 use Rattle.theorems_soundness.specs.Excepted.{OtherFields, ViolatedLine}
-use Rattle.theorems_soundness.specs.Examples.{names, held, k10, k10-bindings}
+use Rattle.theorems_soundness.specs.Examples.{names, held, k10, k10-bindings, fields, product, products, products-bindings}
 
 -- ══ An accepted answer ══
 
@@ -141,7 +141,19 @@ ViolatedCallIsFinal = (pool table con : List ℕ) → ViolatedWords pool table c
 
 -- the exception is real, and the premise is needed: both at the names of the examples
 pub record ViolatedLimits : Type 0 where
+  -- `P{} = P{f: boolean}` is answered Violated, solving accepts it in 1 round, the judge says yes, and it is the exception
+  pub exception-violated : addTest names fields ≡ violated
+  pub exception-accepted : solve names bounded (fields ∷ []) ≡ accepted [] [] 1
+  pub exception-judged : judge names bounded [] [] (fields ∷ []) ≡ got true
+  pub exception-met : OtherFields names fields
   pub exception : ¬ ((cs : List (Con ℕ)) (bs : List (Binding ℕ)) (bounds : List ℕ) (rounds : ℕ) → Given names held cs
       → solve names bounded cs ≡ accepted bs bounds rounds → Premise names cs bs → (c : Con ℕ) → Memᴰ c cs → ¬ (addTest names c ≡ violated))
+  -- {x y = boolean, y = scalar} is accepted in 2 rounds with x y = boolean answered Violated; its premise doesn't hold, the judge says no, and so a
+  -- constraint fails
+  pub product-violated : addTest names product ≡ violated
+  pub product-accepted : solve names bounded products ≡ accepted products-bindings [] 2
+  pub product-outside : ¬ (Premise names products products-bindings)
+  pub product-judged : judge names bounded products-bindings [] products ≡ got false
+  pub product-fails : Fails names products products-bindings []
   pub premise : ¬ ((cs : List (Con ℕ)) (bs : List (Binding ℕ)) (bounds : List ℕ) (rounds : ℕ) → Given names held cs
       → solve names bounded cs ≡ accepted bs bounds rounds → (c : Con ℕ) → Memᴰ c cs → addTest names c ≡ violated → OtherFields names c)

@@ -1,5 +1,18 @@
-use Rattle.theorems_soundness.proofs.Violated.{exception-needed, premise-needed}
+use Rattle.theorems_soundness.proofs.Instances.{fields-accepted, fields-violated, products-accepted, products-judged, product-violated}
+use Rattle.theorems_soundness.proofs.Violated.{exception-met, exception-needed, exception-judged, product-outside, product-fails, premise-needed}
 use Rattle.theorems_soundness.proofs.violated_limits_are_needed.Goals as goal
 
 pub returns : goal.returns
-returns c = record { exception = exception-needed; premise = premise-needed }
+returns c = record {
+  exception-violated = fields-violated;
+  exception-accepted = fields-accepted;
+  exception-judged = exception-judged;
+  exception-met = exception-met;
+  exception = exception-needed;
+  product-violated = product-violated;
+  product-accepted = products-accepted;
+  product-outside = product-outside;
+  product-judged = products-judged;
+  product-fails = product-fails;
+  premise = premise-needed;
+}
