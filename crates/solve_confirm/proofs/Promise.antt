@@ -171,35 +171,27 @@ module _ (pool table set : List ℕ) where
 
     -- ══ From an answer that solving doesn't accept ══
 
-    pub remains : (records rounds : ℕ) → (solveCall pool table set result work).answer ≡ unsolved records rounds
+    as-solving : (a : Solved) → ((records bounds rounds : ℕ) → solved records bounds rounds ≡ a → ⊥) → (solveCall pool table set result work).answer ≡ a
         → confirmCall pool table set result work ≡ solveCall pool table set result work
     unfolding solveCall solvedOf confirmed
-    remains r k e = go room refl (solvedSet t set) refl
+    as-solving a other e = go room refl (solvedSet t set) refl
       where
         go : (l : Got (Unit {0})) → room ≡ l → (m : Got (Answer ℕ)) → solvedSet t set ≡ m
             → confirmCall pool table set result work ≡ solveCall pool table set result work
         go (refused i) f m g = alike (rw f refl)
         go (got u) f (refused i) g = alike (rw (f, g, refused-of t set i g) refl)
-        go (got u) f (got (accepted bs ns j)) g = let z : ◌≡◌ {A = Solved} (solved (sum_of sizeBinding bs) (length ns) j) (unsolved r k) =
-            rw (f, g) at e in absurd (cc)
+        go (got u) f (got (accepted bs ns j)) g = absurd (other (sum_of sizeBinding bs) (length ns) j (rw (f, g) at e))
         go (got u) f (got (remaining ds j)) g = let s = read_of t set (remaining ds j) g
             in alike (rw (f, g, confirmed-of t set (remaining ds j) s.0 g s.1) refl)
         go (got u) f (got (stopped i j)) g = let s = read_of t set (stopped i j) g in alike (rw (f, g, confirmed-of t set (stopped i j) s.0 g s.1) refl)
 
+    pub remains : (records rounds : ℕ) → (solveCall pool table set result work).answer ≡ unsolved records rounds
+        → confirmCall pool table set result work ≡ solveCall pool table set result work
+    remains r k e = as-solving (unsolved r k) (λ records bounds rounds z. cc) e
+
     pub refuses : (i rounds : ℕ) → (solveCall pool table set result work).answer ≡ refusedAfter i rounds
         → confirmCall pool table set result work ≡ solveCall pool table set result work
-    unfolding solveCall solvedOf confirmed
-    refuses r k e = go room refl (solvedSet t set) refl
-      where
-        go : (l : Got (Unit {0})) → room ≡ l → (m : Got (Answer ℕ)) → solvedSet t set ≡ m
-            → confirmCall pool table set result work ≡ solveCall pool table set result work
-        go (refused i) f m g = alike (rw f refl)
-        go (got u) f (refused i) g = alike (rw (f, g, refused-of t set i g) refl)
-        go (got u) f (got (accepted bs ns j)) g = let z : ◌≡◌ {A = Solved} (solved (sum_of sizeBinding bs) (length ns) j) (refusedAfter r k) =
-            rw (f, g) at e in absurd (cc)
-        go (got u) f (got (remaining ds j)) g = let s = read_of t set (remaining ds j) g
-            in alike (rw (f, g, confirmed-of t set (remaining ds j) s.0 g s.1) refl)
-        go (got u) f (got (stopped i j)) g = let s = read_of t set (stopped i j) g in alike (rw (f, g, confirmed-of t set (stopped i j) s.0 g s.1) refl)
+    refuses i k e = as-solving (refusedAfter i k) (λ records bounds rounds z. cc) e
 
     -- ══ From an answer of the call ══
 
