@@ -1,6 +1,6 @@
 -- What the test of a list finds, where it passes; and where it doesn't, that the list is refused.
 use Rattle.std.specs.Prelude.{Ok, ◌≡◌, Bool, true, ◌&&◌, List, [], ◌∷◌, ℕ, ◌+◌, ◌/◌, ◌%◌, ◌≤◌, eqb, length}
-use Rattle.std.proofs.Common.{sym, ap, subst, ◌∙◌, arith, le-leb}
+use Rattle.std.proofs.Common.{sym, ap, subst, ◌∙◌, le-leb}
 use Rattle.rules.specs.Base.{Got, got, ◌>>◌, need, all}
 use Rattle.rules.specs.Calls.{shortLists, tableKept, aloneGiven, boundsGiven, schemeGiven, schemeCall}
 use Rattle.rules.specs.Names.{table_of, lentTable}

@@ -11,7 +11,6 @@ use Rattle.rules.specs.Trees as tree
 use Rattle.rules.specs.Trees.{Ty}
 use Rattle.records.specs.ByView.{open-back}
 use Rattle.records.specs.Holds.{Shows, viewOpen, openOf}
-use Rattle.records.specs.declared.Open.{Open}
 use Rattle.records.specs.declared.View.TheVariants as view
 use Rattle.records.specs.Places.{seen-in}
 use Rattle.types.specs.Once.{ℕ-set, View-set}

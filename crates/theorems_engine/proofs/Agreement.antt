@@ -1,7 +1,7 @@
 -- The second engine's answer is the solver's without the rounds, on every set that fits the engine, whatever the
 -- counts. The proofs for trees stand in the other files.
 use Rattle.std.proofs.Math.Path.{◌≡◌, refl, ap, sym, subst}
-use Rattle.std.proofs.Common.{ap₂, ◌∙◌, arith}
+use Rattle.std.proofs.Common.{ap₂, ◌∙◌}
 use Rattle.std.specs.Prelude.{Bool, false, ◌&&◌, ◌⊎◌, ℕ, length}
 use Rattle.std.proofs.Math.Bool.{true}
 use Rattle.std.proofs.Math.Logic.{inl, inr}

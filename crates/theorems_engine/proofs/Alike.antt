@@ -1,6 +1,6 @@
 -- Two answers that stand side by side: both are there and belong together, or both are the same refusal.
-use Rattle.std.specs.Prelude.{◌≡◌, refl, List, [], ◌∷◌, ◌++◌, ℕ, suc, length}
-use Rattle.std.proofs.Common.{ap, subst, arith}
+use Rattle.std.specs.Prelude.{◌≡◌, refl, List, [], ◌∷◌, ℕ, suc, length}
+use Rattle.std.proofs.Common.{ap, subst}
 use Rattle.rules.specs.Base.{Got, got, refused, ◌>>=◌, each}
 use Rattle.laws.proofs.Value.{Gives}
 

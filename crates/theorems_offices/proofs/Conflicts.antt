@@ -1,6 +1,6 @@
 -- The call that tells which lines conflict: of sets that read alike the same lines do.
 use Rattle.std.proofs.Math.Path.{◌≡◌, refl, ap, ap₂, sym}
-use Rattle.std.proofs.Common.{◌∙◌, arith}
+use Rattle.std.proofs.Common.{◌∙◌}
 use Rattle.std.specs.Prelude.{Bool, true, false, ◌&&◌, ℕ, zero, suc, ◌/◌, leb, take, drop}
 use Rattle.std.proofs.Math.Option.{Option, none, some}
 use mathlib.Core.List.{List, [], ◌∷◌, ◌++◌, map}

@@ -1,7 +1,7 @@
 -- The second engine: sets that read alike are answered alike.
 use Rattle.std.proofs.Math.Path.{◌≡◌, ap}
 use Rattle.std.specs.Prelude.{refl, ℕ}
-use Rattle.std.proofs.Common.{sym, ◌∙◌, arith}
+use Rattle.std.proofs.Common.{sym, ◌∙◌}
 use mathlib.Core.List.{List, [], ◌∷◌, map}
 use Rattle.rules.specs.Base.{Got, got, each, collect, sum_of}
 use Rattle.rules.specs.Trees.{Con, opensCon, sizeCon, sizeBinding}

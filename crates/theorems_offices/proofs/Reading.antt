@@ -1,7 +1,7 @@
 -- Lists that read alike are read as trees that are alike once numbers are replaced by names; or neither is read.
 use Rattle.std.specs.Prelude.{◌≡◌, Bool, true, false, eqb, length}
 use Rattle.std.proofs.Math.Path.{refl, ap}
-use Rattle.std.proofs.Common.{sym, ◌∙◌, arith, eqb-true}
+use Rattle.std.proofs.Common.{sym, ◌∙◌, eqb-true}
 use Rattle.std.proofs.Math.Option.{Option, none, some}
 use mathlib.Core.List.{List, [], ◌∷◌, map}
 use Prim.Native.Nat.{ℕ, zero, suc, ◌+◌}

@@ -1,7 +1,7 @@
 -- Reading text: the same sheet, read over two tables, is answered alike where neither reading meets 3.
 use Rattle.std.specs.Prelude.{◌≡◌, false, length}
 use Rattle.std.proofs.Math.Path.{refl, ap}
-use Rattle.std.proofs.Common.{sym, ◌∙◌, arith}
+use Rattle.std.proofs.Common.{sym, ◌∙◌}
 use mathlib.Core.List.{List, map}
 use Prim.Native.Nat.{ℕ}
 use Rattle.std.proofs.lemmas.List.{length-map}

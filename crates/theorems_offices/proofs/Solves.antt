@@ -1,7 +1,7 @@
 -- Solving: sets that read alike are answered alike.
 use Rattle.std.proofs.Math.Path.{◌≡◌, ap, ap₂}
 use Rattle.std.specs.Prelude.{refl, ℕ}
-use Rattle.std.proofs.Common.{sym, ◌∙◌, arith}
+use Rattle.std.proofs.Common.{sym, ◌∙◌}
 use mathlib.Core.List.{List, [], ◌∷◌, map}
 use Rattle.std.proofs.Math.ListN.{length, length-map}
 use Rattle.rules.specs.Base.{Got, got, bounded, collect, sum_of}

@@ -1,7 +1,6 @@
 -- A file of an edition: over which table it was read, and that the edition's last table has the names that it left.
 use Rattle.std.specs.Prelude.{◌≡◌, List, [], ◌∷◌, ℕ, zero, suc, Result, Ok, Err}
 use Rattle.std.proofs.Math.Path.{refl, sym, subst}
-use Rattle.std.proofs.Common.{arith}
 use Rattle.std.proofs.Math.Option.{some}
 use Rattle.rules.specs.Trees.{Con}
 use Rattle.rules.specs.Names.{Bytes, Table, table_of}
