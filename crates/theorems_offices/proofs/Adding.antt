@@ -13,7 +13,7 @@ use Rattle.rules.specs.Offices.{Keeps, mapOpen, mapTy, mapCon, mapOption}
 use Rattle.theorems_offices.proofs.Over.{Over, gives, within-over}
 use Rattle.theorems_offices.proofs.Sizes.{product-opens, count_map, size-cons}
 use Rattle.theorems_offices.proofs.Contents.{nil-map, variables-in, closed-map, ty_same}
-use Rattle.theorems_offices.proofs.Views.{map_fn, open_of, as-power, fn-of, kind-map}
+use Rattle.theorems_offices.proofs.Views.{map_fn, as-power, seen}
 
 module _ {N M : Type 0} (f : N → M) where
   counts-map : (x y : Option (Tys N × Ty N)) → countsDiffer (mapOption (map_fn f) x) (mapOption (map_fn f) y) ≡ countsDiffer x y
@@ -28,11 +28,11 @@ module _ {N M : Type 0} (f : N → M) where
 
   solid-map : (t : Ty N) → solid (mapTy f t) ≡ solid t
   unfolding solid
-  solid-map t = rw (open_of f t, as-power f t, none-map (mapOpen f) (openOf t), none-map f (asPower t))
+  solid-map t = rw ((seen f t).open_of, as-power f t, none-map (mapOpen f) (openOf t), none-map f (asPower t))
 
   kinds-map : (s t : Ty N) → kindsDiffer (mapTy f s) (mapTy f t) ≡ kindsDiffer s t
   unfolding kindsDiffer
-  kinds-map s t = rw (solid-map s, solid-map t, kind-map f s, kind-map f t)
+  kinds-map s t = rw (solid-map s, solid-map t, (seen f s).kind-map, (seen f t).kind-map)
 
   abbrev pub mapAdded : Added × List (Con N) → Added × List (Con M)
   mapAdded v = (v.0, map (mapCon f) v.1)
@@ -41,11 +41,11 @@ module _ {N M : Type 0} (ν : Names N) (μ : Names M) (f : N → M) (keeps : Kee
   equal-map : (b : Bool) (s t : Ty N) → addEqual μ b (mapTy f s) (mapTy f t) ≡ addEqual ν b s t
   unfolding addEqual
   equal-map true s t = rw (ty_same ν μ f keeps s t)
-  equal-map false s t = rw (fn-of f s, fn-of f t, counts-map f (fn_of s) (fn_of t), kinds-map f s t)
+  equal-map false s t = rw ((seen f s).fn-of, (seen f t).fn-of, counts-map f (fn_of s) (fn_of t), kinds-map f s t)
 
   dim-map : (b : Bool) (t : Ty N) → addDim μ b (mapTy f t) ≡ addDim ν b t
   unfolding addDim
-  dim-map true t = rw (kind-map f t)
+  dim-map true t = rw ((seen f t).kind-map)
   dim-map false t = refl
 
   pub test-map : (c : Con N) → addTest μ (mapCon f c) ≡ addTest ν c

@@ -17,7 +17,7 @@ use Rattle.theorems_offices.proofs.Over.{next, gives, sized-over, over-same}
 use Rattle.theorems_offices.proofs.Options.{then_map, none-map, and-map}
 use Rattle.theorems_offices.proofs.Sizes.{opens-map, size-con, depth-con}
 use Rattle.theorems_offices.proofs.Contents.{nil-map, names_in, all_map, ty_same, among-map, field_in}
-use Rattle.theorems_offices.proofs.Views.{mapStruct, open_of, product-of, struct-of}
+use Rattle.theorems_offices.proofs.Views.{mapStruct, seen}
 use Rattle.theorems_offices.proofs.Replacing.{con-map, looks-map}
 use Rattle.theorems_offices.proofs.Schemes.{plain_map}
 
@@ -35,15 +35,15 @@ module _ {N M : Type 0} (ν : Names N) (μ : Names M) (f : N → M) (keeps : Kee
   unfolding holds mapCon
   holds-map bounds (equal s t) = means-map s t
   holds-map bounds (isDim t) = rw (
-    product-of f t,
-    open_of f t,
+    (seen f t).product-of,
+    (seen f t).open_of,
     none-map (map (mapFactor f)) (productOf t),
     none-map (mapOpen f) (openOf t),
     among-bounds bounds t,
   )
   holds-map bounds (is_scalar p) = nil-map (mapFactor f) p
   holds-map bounds (hasField n s t) =
-      rw (struct-of f s, then_map (mapStruct f) (mapTy f) (struct_of s) (λ v. fieldIn ν n v.2) (λ v. fieldIn μ (f n) v.2) (λ v. field_in ν μ f keeps n v.2))
+      rw ((seen f s).struct-of, then_map (mapStruct f) (mapTy f) (struct_of s) (λ v. fieldIn ν n v.2) (λ v. fieldIn μ (f n) v.2) (λ v. field_in ν μ f keeps n v.2))
       (and-map (mapTy f) (and_then (struct_of s) (λ v. fieldIn ν n v.2)) (λ u. means ν u t) (λ u. means μ u (mapTy f t)) (λ u. means-map u t))
 
 module _ {N M : Type 0} (ν : Names N) (μ : Names M) (f : N → M) (keeps : Keeps ν μ f) (l : Limits) where

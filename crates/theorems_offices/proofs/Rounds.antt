@@ -36,7 +36,7 @@ use Rattle.theorems_offices.proofs.Options.{only-map, then_map, or_map, get_d_ma
 use Rattle.theorems_offices.proofs.Products.{divide-map}
 use Rattle.theorems_offices.proofs.Sizes.{product-opens, count_map, mapState, size-state, depth-state}
 use Rattle.theorems_offices.proofs.Contents.{names_in, closed-map, same_map, ty_same, contains-map, field_in}
-use Rattle.theorems_offices.proofs.Views.{map_fn, mapStruct, product-of, fn-of, struct-of, list-of, variable-of, as-var, as-power}
+use Rattle.theorems_offices.proofs.Views.{map_fn, mapStruct, as-var, as-power, open-seen, seen}
 use Rattle.theorems_offices.proofs.Replacing.{con-map, binding-map, looks-map}
 
 module _ {N M : Type 0} (f : N → M) where
@@ -159,7 +159,7 @@ module _ {N M : Type 0} (ν : Names N) (μ : Names M) (f : N → M) (keeps : Kee
   unfolding fieldStep mapCon
   field_step n s t =
       rw (closed-map f s, only-map (mapTy f) (closed s) s)
-      (then_map (mapTy f) (map_step f) (only_if (closed s) s) _ _ (λ c. rw (struct-of f c)
+      (then_map (mapTy f) (map_step f) (only_if (closed s) s) _ _ (λ c. rw ((seen f c).struct-of)
       (then_map (mapStruct f) (map_step f) (struct_of c) _ _ (λ v. rw (field_in ν μ f keeps n v.2)
       (then_map (mapTy f) (map_step f) (fieldIn ν n v.2) _ _ (λ u. refl))))))
 
@@ -172,12 +172,12 @@ module _ {N M : Type 0} (ν : Names N) (μ : Names M) (f : N → M) (keeps : Kee
 
   by-kind : (s t : Ty N) → Over (map_step f) (by_kind ν l s t) (by_kind μ l (mapTy f s) (mapTy f t))
   unfolding by_kind mapTy
-  by-kind (opened o) u = gives (rw (variable-of f o, product-of f u) (variable-left f (variable o) (productOf u)))
+  by-kind (opened o) u = gives (rw ((open-seen f o).variable-of, (seen f u).product-of) (variable-left f (variable o) (productOf u)))
   by-kind (basic b) u = gives refl
-  by-kind (dim d) u = rw (product-of f u, as-var f u) (dimensions-map d (productOf u) (asVar u))
-  by-kind (fn ps r) u = gives (rw (fn-of f u) (functions-map f ps r (fn_of u)))
-  by-kind (struct n as' fs) u = gives (rw (struct-of f u) (structs-map ν μ f keeps n as' (struct_of u)))
-  by-kind (list t) u = gives (rw (list-of f u) (lists-map f t (list_of u)))
+  by-kind (dim d) u = rw ((seen f u).product-of, as-var f u) (dimensions-map d (productOf u) (asVar u))
+  by-kind (fn ps r) u = gives (rw ((seen f u).fn-of) (functions-map f ps r (fn_of u)))
+  by-kind (struct n as' fs) u = gives (rw ((seen f u).struct-of) (structs-map ν μ f keeps n as' (struct_of u)))
+  by-kind (list t) u = gives (rw ((seen f u).list-of) (lists-map f t (list_of u)))
 
   or-try : (o : Option (Step N)) (g : Got (Step N)) (h : Got (Step M)) → Over (map_step f) g h
       → Over (map_step f) (orTry o g) (orTry (mapOption (map_step f) o) h)
@@ -187,7 +187,7 @@ module _ {N M : Type 0} (ν : Names N) (μ : Names M) (f : N → M) (keeps : Kee
   pub try-map : (c : Con N) → Over (map_step f) (trySatisfy ν l c) (trySatisfy μ l (mapCon f c))
   unfolding trySatisfy mapCon mapTy
   try-map (equal s t) = rw (first-rules ν μ f keeps s t) (or-try (firstRules ν s t) (by_kind ν l s t) (by_kind μ l (mapTy f s) (mapTy f t)) (by-kind s t))
-  try-map (isDim t) = gives (rw (product-of f t) (dimension-parts f (productOf t)))
+  try-map (isDim t) = gives (rw ((seen f t).product-of) (dimension-parts f (productOf t)))
   try-map (is_scalar []) = gives refl
   try-map (is_scalar (free (var x) ↑ k ∷ p)) = next (each_over (mapFactor f) (mapFactor f) (otherSide l k) (otherSide l k) (other-side f l k) p)
       (λ q q' i. gives (rw i))

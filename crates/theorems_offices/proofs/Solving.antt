@@ -14,14 +14,14 @@ use Rattle.theorems_offices.proofs.Over.{collect-over}
 use Rattle.theorems_offices.proofs.Options.{then_map, none-map}
 use Rattle.theorems_offices.proofs.Sizes.{mapState}
 use Rattle.theorems_offices.proofs.Contents.{keep-map, sort-map}
-use Rattle.theorems_offices.proofs.Views.{open_of, name-of}
+use Rattle.theorems_offices.proofs.Views.{open-seen, seen}
 use Rattle.theorems_offices.proofs.Rounds.{round-map}
 
 module _ {N M : Type 0} (f : N → M) where
   bound_of : (c : Con N) → boundOf (mapCon f c) ≡ mapOption f (boundOf c)
   unfolding boundOf mapCon
   bound_of (equal s t) = refl
-  bound_of (isDim t) = rw (open_of f t) (then_map (mapOpen f) f (openOf t) name_of name_of (name-of f))
+  bound_of (isDim t) = rw ((seen f t).open_of) (then_map (mapOpen f) f (openOf t) name_of name_of (λ o. (open-seen f o).name-of))
   bound_of (is_scalar p) = refl
   bound_of (hasField n s t) = refl
 
