@@ -117,16 +117,17 @@ module _ (k : Columns) where
               (h.words (omega (arith, z, few)) ∙ ap (λ (i : ℕ). sets w.words.now (i * 4) (words rs)) z) few room;
         }
 
-    module _ (m : Machine) where
-      pub lines-written : 0 < m.stay → Writes w w' (collect writeCon (map (λ r. is_scalar (factors (colsIn k) r)) (staying m)))
-          → Answered (got (settledIn k m)) w.words.now w'.words.now (Ok (Left w'.at))
-      lines-written p h =
+    -- d is the result buffer, when the writer is done with it
+    module _ (m : Machine) {d : List ℕ} where
+      pub lines-written : 0 < m.stay → Writes w w' (collect writeCon (map (λ r. is_scalar (factors (colsIn k) r)) (staying m))) → d ≡ w'.words.now
+          → Answered (got (settledIn k m)) w.words.now d (Ok (Left w'.at))
+      lines-written p h i =
           let e = rows-long m in
-          left-answered (staying m) (bound m) (omega (arith, e, p)) (omega (arith, e, m.room)) h
+          rw i (left-answered (staying m) (bound m) (omega (arith, e, p)) (omega (arith, e, m.room)) h)
 
-      pub values-written : m.stay ≡ 0 → Writes w w' (collect writeBinding (map (boundBy (colsIn k)) (bound m)))
-          → Answered (got (settledIn k m)) w.words.now w'.words.now (Ok (Bound w'.at))
-      values-written s h = rw s (bound-answered (bound m) (omega (arith, values-long m, m.room)) h)
+      pub values-written : m.stay ≡ 0 → Writes w w' (collect writeBinding (map (boundBy (colsIn k)) (bound m))) → d ≡ w'.words.now
+          → Answered (got (settledIn k m)) w.words.now d (Ok (Bound w'.at))
+      values-written s h i = rw (i, s) (bound-answered (bound m) (omega (arith, values-long m, m.room)) h)
 
 pub refused-answers : (a : Got (Settled ℕ)) (d : List ℕ) (r : Refusal) → a ≡ refused (number_of r) → Answered a d d (Err r)
 unfolding eliminatedOf eliminatedWords resultAfter

@@ -1,10 +1,9 @@
-use Rattle.std.proofs.Common.{◌≡◌, refl, rules}
+-- `inner::quantifying::quantify_at` meets its contract.
+use Rattle.std.proofs.Common.{refl, rules}
 use Rattle.std.proofs.lemmas.Result.{err_from_is_err_and}
 use Rattle.rules.specs.Schemes.{renamed}
-use Rattle.replace.proofs.Substitutions.{same-look}
-use Rattle.replace.proofs.Looks.{type-as}
 use Rattle.replace.proofs.Walks.{told}
-use Rattle.schemes_quantify.proofs.Ready.{renaming, tables, type-stopped, all-long, all_made}
+use Rattle.schemes_quantify.proofs.Ready.{renaming, tables, looked, walked, type-stopped, all-long, all_made}
 use Rattle.schemes_quantify.proofs.inner.quantifying.quantify_at.Goals as goal
 
 pub invariant_of-by : goal.invariant_of-by
@@ -19,43 +18,32 @@ pub put_bounds-requires : goal.put_bounds-requires
 put_bounds-requires c =
     let h = c.args.handed in
     let q = c.quantify_names in
-    let l = tables h q.new.places q.new.v q.ensures.0 q.ensures.1 in
-    (renaming h, same-look h.names.pool.now h.names.table.now q.new.places q.new.v (_, search) (renamed (renaming h), l))
+    (renaming h, looked h q.ensures.0 q.ensures.1 (_, search))
 
 pub returns-in_err-replace_type : goal.returns-in_err-replace_type
 returns-in_err-replace_type c =
     let h = c.args.handed in
     let q = c.quantify_names in
-    let l = tables h q.new.places q.new.v q.ensures.0 q.ensures.1 in
     let k = err_from_is_err_and c.from_residual.result c.from_residual.ensures.1 in
     rw (k.1, k.2)
     (type-stopped h c.args.all c.args.t.tree.0 c.args.bounds.listed.0 _
-    (type-as h.names.pool.now h.names.table.now q.new.places q.new.v (_, search) (renamed (renaming h), l) refl
-    (told c.in_err-replace_type.was c.replace_type.ensures)))
+    (walked h q.ensures.0 q.ensures.1 (_, search) _ (told c.in_err-replace_type.was c.replace_type.ensures)))
 
 pub returns-then-out-gt-RECORDS : goal.returns-then-out-gt-RECORDS
 returns-then-out-gt-RECORDS c =
     let h = c.args.handed in
     let q = c.quantify_names in
-    let l = tables h q.new.places q.new.v q.ensures.0 q.ensures.1 in
     all-long h c.args.all c.args.t.tree.0 c.args.bounds.listed.0 c.requires.sound.flat _ refl c.reserve-start.ensures
-    (type-as h.names.pool.now h.names.table.now q.new.places q.new.v (_, search) (renamed (renaming h), l) refl
-    (told c.in_ok-replace_type.was c.replace_type.ensures))
-    (c.put_bounds.ensures (renaming h)
-    (same-look h.names.pool.now h.names.table.now q.new.places q.new.v (_, search) (renamed (renaming h), l)))
-    c.if-out-gt-RECORDS.true
+    (walked h q.ensures.0 q.ensures.1 (_, search) _ (told c.in_ok-replace_type.was c.replace_type.ensures))
+    (c.put_bounds.ensures (renaming h) (looked h q.ensures.0 q.ensures.1 (_, search))) c.if-out-gt-RECORDS.true
 
 pub returns : goal.returns
 returns c =
     let h = c.args.handed in
     let q = c.quantify_names in
-    let l = tables h q.new.places q.new.v q.ensures.0 q.ensures.1 in
-    let p = c.put_bounds.ensures (renaming h)
-    (same-look h.names.pool.now h.names.table.now q.new.places q.new.v (_, search) (renamed (renaming h), l)) in
+    let p = c.put_bounds.ensures (renaming h) (looked h q.ensures.0 q.ensures.1 (_, search)) in
     let same = p.same in
-    let back : c.work-2-1.given.0 ≡ c.begin.new.self.words.now = search (rules, same) in
-    rw (back, c.begin.ensures.at)
+    rw c.begin.ensures.at
     (all_made h c.args.all c.args.t.tree.0 c.args.bounds.listed.0 c.requires.sound.flat refl c.requires.work_room c.reserve-start.ensures
-    (type-as h.names.pool.now h.names.table.now q.new.places q.new.v (_, search) (renamed (renaming h), l) refl
-    (told c.in_ok-replace_type.was c.replace_type.ensures))
-    p c.if-out-gt-RECORDS.false c.begin.ensures)
+    (walked h q.ensures.0 q.ensures.1 (_, search) _ (told c.in_ok-replace_type.was c.replace_type.ensures)) p c.if-out-gt-RECORDS.false c.begin.ensures
+    (search (rules, same)))
