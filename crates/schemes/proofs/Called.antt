@@ -2,7 +2,7 @@
 use Rattle.std.specs.Prelude.{Result, Ok, Err, IfOk, ◌≡◌, refl, List, ℕ, replicate, length}
 use Rattle.std.proofs.Common.{sym, ap, subst, ◌∙◌}
 use Rattle.rules.specs.Base.{Got, got, refused, ◌>>=◌, ◌>>◌}
-use Rattle.rules.specs.Calls.{tableKept, resultAfter}
+use Rattle.rules.specs.Calls.{tableKept, resultAfter, writing}
 use Rattle.rules.specs.Names.{Table, table_of, tableGiven, lentTable}
 use Rattle.rules.specs.Refusals.{number_of, toldBy}
 use Rattle.rules.specs.Writing.{Rec, words}
@@ -10,7 +10,7 @@ use Rattle.rules.specs.declared.Refusal.{Refusal}
 use Rattle.names.specs.Told.{unit_of}
 use Rattle.names.specs.declared.tables.NameTable.{NameTable}
 use Rattle.types.proofs.Tested.{over, tested}
-use Rattle.records_buffers.proofs.Handed.{made-refused}
+use Rattle.records_buffers.proofs.Handed.{made-refused, as_written}
 use Rattle.records_buffers.specs.Told.{Made, handed}
 use Rattle.schemes.specs.Entry.{called_over}
 
@@ -36,10 +36,11 @@ untested s f why i e = made-refused why (rw (i, sym e))
 pub made-as : {m k : Got (List Rec)} {w : List ℕ} {r : Result ℕ Refusal} → m ≡ k → Made k w r → Made m w r
 made-as {w = w} {r = r} e h = subst (λ (x : Got (List Rec)). Made x w r) (sym e) h
 
--- a work buffer of the same length is left the same
-pub handed-on : (m : Got (List Rec)) (result work w : List ℕ) → length w ≡ length work → handed m result w ≡ handed m result work
-handed-on m result work w e = ap (λ (n : ℕ). record {
+-- what was made is handed over, and the call is that; a work buffer of the same length is left the same
+pub called : {room : Got (Unit {0})} (m : Got (List Rec)) (result work w : List ℕ) → length w ≡ length work → room ≡ got tt
+    → handed m result w ≡ writing room m result work
+called {room} m result work w e i = ap (λ (n : ℕ). record {
   answer = m >>= λ rs. got (length rs);
   result = resultAfter (m >>= λ rs. got (words rs)) result;
   work = replicate n 0;
-}) e
+}) e ∙ as_written room m result work i

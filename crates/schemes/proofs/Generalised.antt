@@ -16,7 +16,7 @@ use Rattle.rules.specs.Trees as tree
 use Rattle.rules.specs.Trees.{Names, Ty, opens}
 use Rattle.rules.specs.Writing.{word_of, writeScheme}
 use Rattle.laws.specs.Lists.{All, in_head, is-yes}
-use Rattle.laws.proofs.Lists.{is-no}
+use Rattle.laws.proofs.Lists.{bracket, is-no}
 use Rattle.laws.specs.NameTable.{Good}
 use Rattle.products.proofs.Held.{law}
 use Rattle.schemes_renaming.specs.Places.{first_equal, all_of}
@@ -24,7 +24,7 @@ use Rattle.schemes_renaming.proofs.InTurn.{quantify-once}
 use Rattle.schemes_handed.specs.Bounds.{Rename, orAll, allBounds}
 use Rattle.schemes_quantify.specs.Ready.{quantifiedBy}
 use Rattle.schemes.specs.Generalising.{Ready, generalisedFrom}
-use Rattle.schemes.proofs.Whole.{tells, bind-twice}
+use Rattle.schemes.proofs.Whole.{tells}
 
 module _ (ν : Names ℕ) where
   -- is there a name, as the rules ask
@@ -92,6 +92,6 @@ module _ (pool table : List ℕ) (good : Good pool table) (t : Ty ℕ) (bs : Lis
       let q = quantify-once ν (law pool table) (is_held (table_of pool table)) 4_294_967_296 (tells pool table 4_294_967_296 good) ordered t cs
       (omega arith) r.good r.unmix in
       rw (q, sym (kept-bounds ν ordered bs r.named))
-      (sym (bind-twice (replaceTy ν bounded (renamed (all_of ν 0 ordered)) t)
+      (sym (bracket (replaceTy ν bounded (renamed (all_of ν 0 ordered)) t)
       (λ u. schemeLimited bounded 1 u (renamedBounds (all_of ν 0 ordered) cs)
       (scheme (length ordered) u (renamedBounds (all_of ν 0 ordered) cs))) (λ s. got (writeScheme s))))

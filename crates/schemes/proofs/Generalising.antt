@@ -19,10 +19,8 @@ use Rattle.rules.specs.Calls.{
   schemeGiven,
   boundsGiven,
   apart,
-  lent,
   opensScheme,
   generalised,
-  generaliseCall,
 }
 use Rattle.rules.specs.Contents.{sort, namesIn}
 use Rattle.rules.specs.Names.{Table, table_of, numbersOf}
@@ -55,12 +53,11 @@ use Rattle.queries.specs.Marks.{Filled}
 use Rattle.queries.proofs.ScanLaws.{type-opens}
 use Rattle.queries.specs.Scans.{choose, opensIn}
 use Rattle.queries.specs.declared.Kind.TheVariants.{Both}
-use Rattle.records_buffers.proofs.Handed.{made-records, as_written, unwritten}
-use Rattle.records_buffers.specs.Told.{Made, handed}
+use Rattle.records_buffers.proofs.Handed.{made-records}
+use Rattle.records_buffers.specs.Told.{Made}
 use Rattle.schemes_handed.proofs.OnBounds.{bound-rec}
 use Rattle.schemes_quantify.specs.Ready.{quantifiedBy}
 use Rattle.schemes.specs.Generalising.{Ready, generalisedFrom}
-use Rattle.schemes.proofs.Called.{handed-on}
 use Rattle.schemes.proofs.Generalised.{ordered, generalise-made}
 use Rattle.schemes.proofs.Rows.{IsRow}
 use Rattle.schemes.proofs.Schemes.{are-apart}
@@ -203,17 +200,3 @@ module _ (pool table : List ℕ) (good : Good pool table) (t : Ty ℕ) (bs : Lis
         let few : length named ≤ 2048 = omega (arith, ap length listed-front, sorted-few) in
         subst (λ (x : Got (List Rec)). Made x w r)
         (ap (λ (ns : List ℕ). quantifiedBy pool table ns false t bs) listed-front ∙ generalise-made pool table good t bs y few) m
-
--- ══ The call ══
-
-module _ (pool table result work : List ℕ) (s bounds : List ℕ) where
-  pub generalise-short : lent pool table result work ≡ refused 10
-      → record { answer = refused 10; result = result; work = work } ≡ generaliseCall pool table s bounds result work
-  unfolding generaliseCall
-  generalise-short e = unwritten (lent pool table result work) (generalised (table_of pool table) s bounds) result work e
-
-  pub generalise-called : (w : List ℕ) → length w ≡ length work → lent pool table result work ≡ got tt
-      → handed (generalised (table_of pool table) s bounds) result w ≡ generaliseCall pool table s bounds result work
-  unfolding generaliseCall
-  generalise-called w n e = handed-on (generalised (table_of pool table) s bounds) result work w n
-      ∙ as_written (lent pool table result work) (generalised (table_of pool table) s bounds) result work e

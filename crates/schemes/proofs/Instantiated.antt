@@ -9,7 +9,7 @@ use Rattle.std.proofs.Math.Option
 use Rattle.std.proofs.Math.Dec.{eqb}
 use Rattle.std.proofs.lemmas.List.{length-map}
 use Rattle.rules.specs.Base.{Got, got, refused, ◌>>=◌, ◌>>◌, need, bounded, all}
-use Rattle.rules.specs.Calls.{shortLists, tableKept, numbersGiven, apart, schemeGiven, opensScheme, lent, instantiated, instantiateCall}
+use Rattle.rules.specs.Calls.{shortLists, tableKept, numbersGiven, apart, schemeGiven, opensScheme, instantiated}
 use Rattle.rules.specs.Names.{Table, table_of, numbersOf, is_held}
 use Rattle.rules.specs.Plain.{plain}
 use Rattle.rules.specs.Replacing.{replaceTy}
@@ -28,12 +28,10 @@ use Rattle.records.specs.Found.{Words32}
 use Rattle.records.specs.Good.{GoodTy, GoodScheme}
 use Rattle.records.proofs.Schemes.{scheme-is}
 use Rattle.schemes_handed.specs.Bounds.{Rename, allBounds, BoundsAt}
-use Rattle.records_buffers.proofs.Handed.{as_written, unwritten}
-use Rattle.records_buffers.specs.Told.{Made, handed}
+use Rattle.records_buffers.specs.Told.{Made}
 use Rattle.schemes_handed.proofs.Tested.{chain-bounds}
 use Rattle.schemes_handed.specs.declared.Handed.{Handed}
 use Rattle.schemes_instantiate.specs.Ready.{putBackAs, instantiatedAs, Slim, Ready, ReadyScheme}
-use Rattle.schemes.proofs.Called.{handed-on}
 use Rattle.schemes.proofs.Rows.{IsRow}
 use Rattle.schemes.proofs.Whole.{tells, all_renamed}
 
@@ -175,18 +173,3 @@ module _ (h : Handed) (s : List ℕ) (w : Words32 s) (short : length s ≤ 8192)
 pub given-over : (h : Handed) {n : NameTable} (s : List ℕ) {sc : Scheme ℕ} → h.names ≡ n → schemeGiven (table_of n.pool.now n.table.now) s ≡ got sc
     → schemeGiven (table_of h.names.pool.now h.names.table.now) s ≡ got sc
 given-over h s {sc} e g = subst (λ (x : NameTable). schemeGiven (table_of x.pool.now x.table.now) s ≡ got sc) (sym e) g
-
--- ══ The call ══
-
-module _ (pool table result work s names : List ℕ) where
-  pub instantiate-short : lent pool table result work ≡ refused 10
-      → record { answer = refused 10; result = result; work = work } ≡ instantiateCall pool table s names result work
-  unfolding instantiateCall
-  instantiate-short e = unwritten (lent pool table result work) (instantiated (table_of pool table) s names) result work e
-
-  pub instantiate-called : (w : List ℕ) → length w ≡ length work → lent pool table result work ≡ got tt
-      → handed (instantiated (table_of pool table) s names) result w ≡ instantiateCall pool table s names result work
-  unfolding instantiateCall
-  instantiate-called w n e =
-      handed-on (instantiated (table_of pool table) s names) result work w n
-      ∙ as_written (lent pool table result work) (instantiated (table_of pool table) s names) result work e

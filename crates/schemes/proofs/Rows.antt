@@ -2,14 +2,12 @@
 use Rattle.std.specs.Prelude.{Result, Err, ◌≡◌, refl, Bool, true, false, ◌&&◌, List, [], ◌∷◌, ℕ, ◌≤◌, ◌<◌, leb, length}
 use Rattle.std.proofs.Common.{sym, ap, ◌∙◌, le-leb}
 use Rattle.std.proofs.lemmas.Bool.{lt-leb}
-use borrow.Author.Tests.{leb-true}
 use Rattle.rules.specs.Base.{Got, got, refused, ◌>>=◌, ◌>>◌, need, all}
 use Rattle.rules.specs.Calls.{shortLists, shortNumbers}
 use Rattle.rules.specs.Refusals.{number_of}
 use Rattle.rules.specs.Writing.{Rec}
 use Rattle.rules.specs.declared.Refusal.{Refusal}
-use Rattle.laws.proofs.Checks.{need-passed, first-passed, next-passed, list-short}
-use Rattle.laws.specs.Lists.{and_left}
+use Rattle.laws.proofs.Checks.{first-passed, next-passed, list-short}
 use Rattle.records_buffers.proofs.Handed.{made-refused}
 use Rattle.records_buffers.specs.Told.{Made}
 use Rattle.schemes.specs.Entry.{short}

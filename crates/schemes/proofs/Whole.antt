@@ -5,8 +5,8 @@ use Rattle.std.proofs.Common.{subst, ap₂, ◌∙◌, arith, ltb-true}
 use mathlib.Core.List.{List, [], ◌∷◌}
 use Rattle.std.proofs.Math.Option.{Option, none, some}
 use Rattle.std.proofs.Math.ListN.{length}
-use Rattle.rules.specs.Base.{Got, got, refused, ◌>>=◌, bounded, collect}
-use Rattle.rules.specs.Calls.{tableKept, typeGiven, boundsGiven, numbersGiven, apart, lent, quantified, quantifyCall}
+use Rattle.rules.specs.Base.{Got, got, ◌>>=◌, bounded, collect}
+use Rattle.rules.specs.Calls.{tableKept, typeGiven, boundsGiven, numbersGiven, apart, quantified}
 use Rattle.rules.specs.Names.{Table, table_of, numbersOf, is_held}
 use Rattle.rules.specs.Replacing.{replaceTy}
 use Rattle.rules.specs.Schemes.{scheme, schemeLimited, renamed, renamedBounds, quantify}
@@ -17,7 +17,9 @@ use Rattle.rules.specs.Writing.{Rec, writeScheme}
 use Rattle.rules.specs.declared.Refusal.{Refusal}
 use Rattle.laws.specs.GoodProducts.{goodAtom}
 use Rattle.laws.proofs.GoodProducts.{atom-tells}
-use Rattle.laws.specs.NameTable.{Good, held_tells}
+use Rattle.laws.proofs.Lists.{bracket}
+use Rattle.laws.specs.Given.{held-apart}
+use Rattle.laws.specs.NameTable.{Good}
 use Rattle.laws.proofs.NameTable.{held-is}
 use Rattle.laws.specs.Order.{Tells}
 use Rattle.laws.proofs.Weaker.{ty-weaker}
@@ -28,22 +30,17 @@ use Rattle.schemes_renaming.proofs.InTurn.{quantify-once}
 use Rattle.records.specs.Found.{Words32}
 use Rattle.records.specs.Good.{goodTy}
 use Rattle.records.proofs.Whole.{type-is}
-use Rattle.records_buffers.proofs.Handed.{as_written, unwritten}
-use Rattle.records_buffers.specs.Told.{Made, handed}
+use Rattle.records_buffers.specs.Told.{Made}
 use Rattle.schemes_handed.specs.Bounds.{Rename, allBounds}
 use Rattle.schemes_handed.specs.declared.Handed.{Handed}
 use Rattle.schemes_quantify.specs.Ready.{Sound, quantifiedAs}
-use Rattle.schemes.proofs.Called.{handed-on}
 use Rattle.schemes.proofs.Rows.{IsRow}
 
 module _ (pool table : List ℕ) where
   -- the order tells the atoms of well formed products apart
   pub tells : (q : ℕ) → Good pool table → Tells (λ a. goodAtom (numbersOf (table_of pool table)) (is_held (table_of pool table)) q a ≡ true)
       (orderAtom (numbersOf (table_of pool table)))
-  tells q g = atom-tells (numbersOf (table_of pool table)) (is_held (table_of pool table)) q (record {
-    same = λ a b h k e. (held_tells g).same a b (ltb-true a (get_or table 0 0) (sym (held-is pool table a) ∙ h))
-        (ltb-true b (get_or table 0 0) (sym (held-is pool table b) ∙ k)) e;
-  })
+  tells q g = atom-tells (numbersOf (table_of pool table)) (is_held (table_of pool table)) q (held-apart pool table g)
 
   -- a type that passed its test is what the walk asks
   pub weak-sound : (t : Ty ℕ) → goodTy pool table 0 t ≡ true → tree.depth t ≤ 64 → Sound pool table t
@@ -59,10 +56,6 @@ all_renamed f (o ∷ bs) = go (f o) refl (all_renamed f bs)
     go : (s : Option (tree.Open ℕ)) → f o ≡ s → allBounds true f bs ≡ renamedBounds f bs → allBounds true f (o ∷ bs) ≡ renamedBounds f (o ∷ bs)
     go none i r = rw i (ap (o ∷◌) r)
     go (some u) i r = rw i (ap (u ∷◌) r)
-
-pub bind-twice : {A B C : Type 0} (m : Got A) (f : A → Got B) (g : B → Got C) → (m >>= f >>= g) ≡ (m >>= λ a. f a >>= g)
-bind-twice (got a) f g = refl
-bind-twice (refused n) f g = refl
 
 -- ══ Quantifying ══
 
@@ -91,7 +84,7 @@ module _ (h : Handed) (t : Ty ℕ) (bs : List (tree.Open ℕ)) where
       let q = quantify-once ν (law pool table) (is_held (table_of pool table)) 4_294_967_296 (tells pool table 4_294_967_296 h.names.good) numbers t bs
       (let k = h.few in omega arith) good unmix in
       rw (all_renamed f bs, q)
-      (sym (bind-twice (replaceTy ν bounded (renamed f) t)
+      (sym (bracket (replaceTy ν bounded (renamed f) t)
       (λ u. schemeLimited bounded 1 u (renamedBounds f bs) (scheme (length numbers) u (renamedBounds f bs))) (λ s. got (writeScheme s))))
 
   module _ {n : NameTable} {numbers : List ℕ} (e : (h.names ≡ n) × (h.numbers.now ≡ numbers)) where
@@ -114,17 +107,3 @@ module _ (pool table ws : List ℕ) (w : Words32 ws) (t : Ty ℕ) (e : typeGiven
 
   pub given-sound : Sound pool table t
   given-sound = weak-sound pool table t given-good (type-is pool table ws w t e).deep
-
--- ══ The call ══
-
-module _ (pool table : List ℕ) (result work : List ℕ) where
-  pub quantify-short : (ws bounds names : List ℕ) → lent pool table result work ≡ refused 10
-      → record { answer = refused 10; result = result; work = work } ≡ quantifyCall pool table ws bounds names result work
-  unfolding quantifyCall
-  quantify-short ws bounds names e = unwritten (lent pool table result work) (quantified (table_of pool table) ws bounds names) result work e
-
-  pub quantify-called : (ws bounds names w : List ℕ) → length w ≡ length work → lent pool table result work ≡ got tt
-      → handed (quantified (table_of pool table) ws bounds names) result w ≡ quantifyCall pool table ws bounds names result work
-  unfolding quantifyCall
-  quantify-called ws bounds names w n e = handed-on (quantified (table_of pool table) ws bounds names) result work w n
-      ∙ as_written (lent pool table result work) (quantified (table_of pool table) ws bounds names) result work e

@@ -2,13 +2,16 @@
 use mathlib.Core.Path.{ap, ◌∙◌}
 use mathlib.Core.Bool.{not}
 use Rattle.std.proofs.Common.{sym}
+use Rattle.rules.specs.Calls.{instantiateCall}
+use Rattle.records_buffers.proofs.Handed.{unwritten}
 use Rattle.records_buffers.proofs.OnLent.{Long, long, short}
-use Rattle.schemes.proofs.Instantiated.{instantiate-row, instantiate-short, instantiate-called}
-use Rattle.schemes.proofs.Called.{over_tested, made-as}
+use Rattle.schemes.proofs.Instantiated.{instantiate-row}
+use Rattle.schemes.proofs.Called.{over_tested, made-as, called}
 use Rattle.schemes.proofs.instantiate.Goals as goal
 
 pub returns-then-not-lent : goal.returns-then-not-lent
-returns-then-not-lent c = instantiate-short _ _ _ _ _ _ (short _ _ _ _ c.lent.result c.lent.ensures (ap not c.if-not-lent.true))
+unfolding instantiateCall
+returns-then-not-lent c = unwritten _ _ _ _ (short _ _ _ _ c.lent.result c.lent.ensures (ap not c.if-not-lent.true))
 
 pub make_instantiated-made-requires : goal.make_instantiated-made-requires
 make_instantiated-made-requires c = let enough : Long c.args.pool.now c.args.table.now c.args.res.now c.args.work.now =
@@ -21,10 +24,11 @@ hand_over-requires c = let enough : Long c.args.pool.now c.args.table.now c.args
     record { made = (_, c.make_instantiated-made.ensures); room = enough.result-long }
 
 pub returns : goal.returns
+unfolding instantiateCall
 returns c =
     let a = c.args in
     let enough : Long a.pool.now a.table.now a.res.now a.work.now = long _ _ _ _ c.lent.result c.lent.ensures (ap not c.if-not-lent.false) in
     let over = over_tested _ _ _ (λ t. (instantiate-row t a.given.now a.names.now).is) a.pool.now
     a.table.now enough.table-met _ c.new-tested.ensures.answer c.new-tested.ensures.same in
     c.hand_over.ensures _ (made-as (sym over) c.make_instantiated-made.ensures)
-    ∙ instantiate-called _ _ _ _ _ _ c.make_instantiated-made.new.work c.make_instantiated-made.auto.work enough.met
+    ∙ called _ _ _ c.make_instantiated-made.new.work c.make_instantiated-made.auto.work enough.met
