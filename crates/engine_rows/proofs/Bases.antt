@@ -26,13 +26,14 @@ module _ (s : List ℕ) where
       ∙ sym (append_assoc (basesView (viewAt s at)) (basesFrom s m (at + 1)) (basesFrom s n (at + suc m))))
 
   factor-bases : (f : Factor ℕ) (at : ℕ) → HoldsFactor s f at → basesView (viewAt s at) ≡ basesOf (atomOf f ∷ [])
+  unfolding collect
   factor-bases (free (var x) ↑ frac n d) at h = ap basesView h.0
   factor-bases (free (quant i) ↑ frac n d) at h = ap basesView h.0
   factor-bases (free (par x) ↑ frac n d) at h = ap basesView h.0
   factor-bases (base x ↑ frac n d) at h = ap basesView h.0
 
   factors-bases : (p : Product ℕ) (at : ℕ) → HoldsFactors s p at → basesFrom s (length p) at ≡ basesOf (map atomOf p)
-  unfolding basesFrom HoldsFactors
+  unfolding collect basesFrom HoldsFactors
   factors-bases [] at h = refl
   factors-bases (f ∷ p) at h = ap₂ ◌++◌ (factor-bases f at h.0) (factors-bases p (at + 1) h.1) ∙ sym (bases-append (atomOf f ∷ []) (map atomOf p))
 

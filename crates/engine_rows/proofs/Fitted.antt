@@ -24,10 +24,10 @@ use Rattle.laws.proofs.GoodProducts.{GoodFactor, good-product}
 use Rattle.records.specs.Good.{Chain, GoodCon, numbers, holding}
 use Rattle.queries.proofs.Runs.{set-opens, set_known}
 use Rattle.queries.proofs.GoodOpens.{names-held}
+use Rattle.queries.specs.Scans.{opensIn}
 use Rattle.queries.specs.declared.Kind.TheVariants.{Variables, Parameters}
 use Rattle.rules.specs.Names.{table_of}
 use Rattle.laws.specs.NameTable.{count-is}
-use Rattle.laws.proofs.ReadLists as Below
 use Rattle.engine_matrix.specs.declared.inner.parts.Columns.{Columns}
 use Rattle.rules.specs.Elimination.{columns, fits, isVariable}
 use Rattle.engine_matrix.specs.Machine.{atomsFrom, namesIn, colsIn}
@@ -35,7 +35,7 @@ use Rattle.engine_rows.specs.Atoms.{powerOf}
 use Rattle.engine_rows.specs.Lines.{Plain}
 use Rattle.engine_rows.specs.Columns.{vars, pars, bases, Known}
 use Rattle.engine_rows.proofs.Columns.{Listed}
-use Rattle.engine_rows.proofs.Sorting.{varsOf, parsOf, basesOf, Named, in_turn, in-turn, from-names, variables-kept, others-kept, set-variables, set-parameters}
+use Rattle.engine_rows.proofs.Sorting.{opensOf, basesOf, Named, in_turn, in-turn, from-names, variables-kept, others-kept, set-opened}
 use Rattle.engine_rows.proofs.Bases.{set-bases}
 
 module _ (pool table s : List ℕ) where
@@ -84,11 +84,14 @@ module _ (pool table s : List ℕ) where
     all_named (p ∷ qs) at c = factors-named p (collect (λ p. map atomOf p) qs)
         (good-product ν (atom-lawful ν law) (holding pool table) 0 p c.1.0.good).each (all_named qs c.0 c.1.1)
 
-    vars-are : vars ν s e ≡ sort ν (varsOf atoms)
-    vars-are = ap (λ (os : List (Open ℕ)). sort ν (variablesIn os)) (set-opens pool table 0 s (map is_scalar ps) 0 e chain) ∙ ap (sort ν) (set-variables ps)
+    opens-are : opensIn s 0 e ≡ opensOf atoms
+    opens-are = set-opens pool table 0 s (map is_scalar ps) 0 e chain ∙ set-opened ps
 
-    pars-are : pars ν s e ≡ sort ν (parsOf atoms)
-    pars-are = ap (λ (os : List (Open ℕ)). sort ν (parametersIn os)) (set-opens pool table 0 s (map is_scalar ps) 0 e chain) ∙ ap (sort ν) (set-parameters ps)
+    vars-are : vars ν s e ≡ sort ν (variablesIn (opensOf atoms))
+    vars-are = ap (λ (os : List (Open ℕ)). sort ν (variablesIn os)) opens-are
+
+    pars-are : pars ν s e ≡ sort ν (parametersIn (opensOf atoms))
+    pars-are = ap (λ (os : List (Open ℕ)). sort ν (parametersIn os)) opens-are
 
     bases-are : bases ν s e ≡ sort ν (basesOf atoms)
     bases-are = ap (sort ν) (set-bases s pool table ps 0 e chain).1
@@ -137,7 +140,8 @@ module _ (pool table s : List ℕ) where
     -- ══ All names are held ══
 
     factors-bases : (p : Product ℕ) (as' : List (Atom ℕ)) → Every (GoodFactor ν (holding pool table) 0) p
-        → Below.Every (λ x. x < get_or table 0 0) (basesOf as') → Below.Every (λ x. x < get_or table 0 0) (basesOf (map atomOf p ++ as'))
+        → Every (λ x. x < get_or table 0 0) (basesOf as') → Every (λ x. x < get_or table 0 0) (basesOf (map atomOf p ++ as'))
+    unfolding collect
     factors-bases [] as' h k = k
     factors-bases (free (var x) ↑ d ∷ p) as' h k = factors-bases p as' h.1 k
     factors-bases (free (quant i) ↑ d ∷ p) as' h k = factors-bases p as' h.1 k
@@ -145,7 +149,7 @@ module _ (pool table s : List ℕ) where
     factors-bases (base n ↑ d ∷ p) as' h k = (rw (count-is pool table) at (ltb-true n (table_of pool table).count h.0.0), factors-bases p as' h.1 k)
 
     all-bases : (qs : List (Product ℕ)) (at : ℕ) → Chain (GoodCon pool table 0 s) e (map is_scalar qs) at
-        → Below.Every (λ x. x < get_or table 0 0) (basesOf (collect (λ p. map atomOf p) qs))
+        → Every (λ x. x < get_or table 0 0) (basesOf (collect (λ p. map atomOf p) qs))
     unfolding collect goodCon
     all-bases [] at c = tt
     all-bases (p ∷ qs) at c = factors-bases p (collect (λ p. map atomOf p) qs)
