@@ -1,17 +1,14 @@
 -- What follows from the definitions of specs/Entry: the checks of a set past that of 10, and what is known where they are met; and the whole call.
-use Rattle.std.specs.Prelude.{◌≡◌, refl, Err, ◌&&◌, List, [], ◌∷◌, ℕ, ◌/◌, ◌≤◌, leb, length, replicate}
+use Rattle.std.specs.Prelude.{◌≡◌, refl, Err, List, [], ◌∷◌, ℕ, ◌/◌, ◌≤◌, length, replicate}
 use Rattle.std.proofs.Common.{arith, sym, subst, ◌∙◌}
 use Rattle.std.proofs.Math.Path.{ap}
-use Rattle.std.proofs.Math.Bool.{true}
-use borrow.Author.Tests.{leb-true}
-use Rattle.rules.specs.Base.{Got, got, refused, ◌>>=◌, ◌>>◌, need, all, collect}
+use Rattle.rules.specs.Base.{Got, got, refused, ◌>>=◌, ◌>>◌, need, collect}
 use Rattle.rules.specs.Calls.{shortLists, tableKept, setGiven, apart, aloneGiven, setCall, lent, resultAfter, workAfter}
 use Rattle.rules.specs.Contents.{unmixed}
 use Rattle.rules.specs.Names.{table_of, lentTable}
 use Rattle.rules.specs.Trees.{Con, opensCon}
 use Rattle.rules.specs.declared.Refusal.TheVariants.{ShortBuffer}
-use Rattle.laws.proofs.Checks.{need-passed, passed, list-short}
-use Rattle.laws.specs.Lists.{and_left}
+use Rattle.laws.proofs.Checks.{passed, list-short}
 use Rattle.laws.proofs.Lists.{clash}
 use Rattle.laws.specs.NameTable.{Good, good-laid}
 use Rattle.records.specs.Found.{Words32}

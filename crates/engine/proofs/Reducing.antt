@@ -30,7 +30,6 @@ use Rattle.std.proofs.lemmas.List.{length-map}
 use Rattle.laws.proofs.Lists.{clash, same-number}
 use Rattle.rules.specs.Elimination.{Row, eliminate, settledBy, scalarOf, columns, fits, fitting}
 use Rattle.engine_matrix.specs.Machine.{colsIn}
-use Rattle.engine.specs.declared.inner.Reduced.{Reduced}
 use Rattle.engine.specs.Reducing.{ν, reduction}
 
 module _ (pool table : List ℕ) (cs : List (Con ℕ)) where

@@ -6,7 +6,7 @@ use Rattle.rules.specs.Trees.{Names, Con}
 use Rattle.records.specs.Good.{Chain, GoodCon, numbers}
 use Rattle.engine_matrix.specs.declared.inner.parts.Columns.{Columns}
 use Rattle.engine_matrix.specs.declared.inner.parts.Machine.{Machine}
-use Rattle.rules.specs.Elimination.{Settled, settledBy, columns, fitting, eliminated}
+use Rattle.rules.specs.Elimination.{Settled, settledBy, fitting, eliminated}
 use Rattle.engine_matrix.specs.Machine.{colsIn, staying, bound}
 use Rattle.engine.specs.declared.inner.Reduced.{Reduced}
 
