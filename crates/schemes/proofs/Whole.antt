@@ -1,7 +1,7 @@
 -- Quantifying past the check of 10: its checks, and then what was made in one walk.
-use Rattle.std.specs.Prelude.{Result, ◌≡◌, refl, true, ℕ, ◌≤◌, get_or}
+use Rattle.std.specs.Prelude.{Result, ◌≡◌, refl, true, ℕ, ◌≤◌}
 use Rattle.std.proofs.Math.Path.{sym, ap}
-use Rattle.std.proofs.Common.{subst, ap₂, ◌∙◌, arith, ltb-true}
+use Rattle.std.proofs.Common.{subst, ap₂, ◌∙◌, arith}
 use mathlib.Core.List.{List, [], ◌∷◌}
 use Rattle.std.proofs.Math.Option.{Option, none, some}
 use Rattle.std.proofs.Math.ListN.{length}
@@ -20,7 +20,6 @@ use Rattle.laws.proofs.GoodProducts.{atom-tells}
 use Rattle.laws.proofs.Lists.{bracket}
 use Rattle.laws.specs.Given.{held-apart}
 use Rattle.laws.specs.NameTable.{Good}
-use Rattle.laws.proofs.NameTable.{held-is}
 use Rattle.laws.specs.Order.{Tells}
 use Rattle.laws.proofs.Weaker.{ty-weaker}
 use Rattle.names.specs.declared.tables.NameTable.{NameTable}
