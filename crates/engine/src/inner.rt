@@ -1,14 +1,14 @@
 //! The rows that are left, and the values that were found, as records.
-ghost use Rattle.std.specs.Prelude.{◌≡◌, List, [], map, ℕ, ◌≤◌, length};
+ghost use Rattle.std.specs.Prelude.{◌≡◌, IfOk, Ok, List, [], map, ℕ, ◌≤◌, length};
 ghost use Rattle.rules.specs.Base.{got, collect};
 ghost use Rattle.rules.specs.Trees.{Atom as TreeAtom, ◌↑◌, is_scalar};
 ghost use Rattle.rules.specs.Writing.{writeFactor, writeProduct, writeCon, writeBinding};
-ghost use Rattle.rules.specs.Names.{table_of, lentTable};
-ghost use Rattle.rules.specs.Refusals.{told, toldBy};
+ghost use Rattle.rules.specs.Refusals.{toldBy};
 ghost use Rattle.rules.specs.Elimination.{◌gets◌, factors, boundBy, eliminate as eliminated, eliminatedSet};
 ghost use Rattle.exponents.specs.Answers.{expOf};
 ghost use Rattle.records.specs.Views.{recOf};
 ghost use Rattle.records.specs.Holds.{atomOf};
+ghost use Rattle.types.specs.Given.{call_over, constraints_in};
 ghost use Rattle.types.specs.Written.{Writes};
 ghost use Rattle.engine_matrix.specs.Told.{row_in};
 ghost use Rattle.engine_matrix.specs.Machine.{colsIn, staying, bound, rest};
@@ -27,10 +27,10 @@ use engine_rows::inner::{atom_at, blank, lines_of, list_columns};
 use exponents::Exponent;
 use names::tables::NameTable;
 use queries::inner::is_unmixed;
-use records::{Atom, View, is_set};
+use records::{Atom, View};
 use rules::Refusal;
-use types::Constraints;
 use types::writer::Writer;
+use types::{Constraints, GivenSet};
 
 /// The record of a factor.
 fn factor_view(a: Atom, e: Exponent) -> View
@@ -162,13 +162,17 @@ fn write(k: Columns, m: Machine, res: &mut [u32]) -> Eliminated
     Eliminated::Bound(out.at)
 }
 
-/// Is the set well formed (8, 1), and is no name both a variable and a parameter (4)?
-fn enter(pool: &[u8], table: &[u32], words: &[u32]) -> Result<(), Refusal>
-    ensures { told result ≡ entered pool.now table.now words.now }
+/// A set over a table, well formed (8, the table's refusal, 1), and no name both a variable and a parameter (4).
+fn enter<'a>(
+    names: Result<NameTable<'a>, Refusal>,
+    words: &'a [u32],
+) -> Result<GivenSet<'a>, Refusal>
+    ensures answer { toldBy constraints_in result ≡ entered names.entry words.now }
+    ensures same { IfOk result (λ s. names.entry ≡ Ok s.names) }
 {
-    is_set(pool, table, words)?;
+    let given = GivenSet::new(names, words)?;
     if is_unmixed(words, 0, words.len() / 4) {
-        Ok(())
+        Ok(given)
     } else {
         Err(Refusal::Mixed)
     }
@@ -176,19 +180,16 @@ fn enter(pool: &[u8], table: &[u32], words: &[u32]) -> Result<(), Refusal>
 
 /// All that the engine does past the check of 10.
 pub fn eliminate_set(
-    pool: &[u8],
-    table: &[u32],
+    names: Result<NameTable, Refusal>,
     words: &[u32],
     res: &mut [u32],
 ) -> Result<Eliminated, Refusal>
-    requires table_lent { lentTable pool.now table.now ≡ got tt }
     requires room { 8192 ≤ length res.old }
-    ensures { Answered (eliminatedSet (table_of pool.now table.now) words.now) res.old res.new result }
+    ensures { Answered (call_over names.entry eliminatedSet words.now) res.old res.new result }
 {
-    enter(pool, table, words)?;
-    let names = NameTable { pool, table };
+    let given = enter(names, words)?;
     let end = words.len() / 4;
     let set = Constraints { words, at: 0, end };
-    let reduced = reduce(names, set)?;
+    let reduced = reduce(given.names, set)?;
     Ok(write(reduced.columns, reduced.machine, res))
 }

@@ -9,6 +9,7 @@ ghost use Rattle.engine.specs.Told.{numberEliminated, eliminationAs};
 ghost use Rattle.rules.specs.Elimination.{eliminateCall};
 
 use inner::eliminate_set;
+use names::tables::NameTable;
 use records_buffers::inner::clear;
 use records_buffers::lent;
 use rules::Refusal;
@@ -45,7 +46,8 @@ pub fn eliminate(
     if !lent(pool, table, res, work) {
         return Err(Refusal::ShortBuffer);
     }
-    let answer = eliminate_set(pool, table, words, res);
+    let names = NameTable::new(pool, table);
+    let answer = eliminate_set(names, words, res);
     clear(work);
     answer
 }

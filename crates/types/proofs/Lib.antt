@@ -2,6 +2,7 @@ mod Alone
 mod Asked
 pub mod Binds
 mod Bound
+pub mod Entering
 mod Factors
 pub mod FieldsFound
 pub mod GivenLists
