@@ -11,7 +11,6 @@ ghost use Rattle.engine_matrix.specs.Machine.{colsIn};
 ghost use Rattle.rules.specs.Contents.{sort};
 ghost use Rattle.rules.specs.Refusals.{toldBy};
 ghost use Rattle.laws.specs.Lists.{Every};
-ghost use Rattle.laws.proofs.ReadLists as Below;
 ghost use Rattle.records.specs.Good.{numbers};
 ghost use Rattle.queries.specs.Marks.{Has, Filled};
 ghost use Rattle.engine_rows.specs.Columns.{basesAtom, basesView, basesIn, Known, headed, listed};
@@ -147,7 +146,7 @@ fn base_names(s: &[u32], e: usize) -> NameSet
 
 /// Lists the base dimensions, sorted, and says how many.
 fn list_bases(names: NameTable, s: &[u32], e: usize, out: &mut [u32]) -> usize
-    requires held { Below.Every (λ x. x < get_or names.table.now 0 0) (basesIn s.now 0 e) }
+    requires held { Every (λ x. x < get_or names.table.now 0 0) (basesIn s.now 0 e) }
     requires room { 256 ≤ length out.old }
     ensures { Filled (sort (numbers names.entry.pool.now names.entry.table.now) (basesIn s.now 0 e)) result out.old out.new }
 {
