@@ -32,7 +32,8 @@ use Rattle.std.proofs.Common.{
   Some,
   None,
 }
-use Rattle.std.specs.Prelude.{option_map}
+use Rattle.std.specs.Prelude.{option_map, IfOk, Vec}
+use Rattle.std.specs.declared.alloc.Global.{Global}
 use Rattle.std.specs.List.{list_any, list_all, slice_split, onto_first, starts_with}
 use Rattle.std.specs.Char.{is_ascii_uppercase}
 use Rattle.std.proofs.lemmas.Bool.{and_parts, not-true}
@@ -50,6 +51,7 @@ use Rattle.rules.specs.Names.{Bytes, sameBytes, distinct}
 use Rattle.laws.specs.Lists.{Every}
 use Rattle.laws.proofs.Contents.{any_append}
 use Rattle.laws.proofs.NameTable.{same-no}
+use Rattle.edition_certificate_file.specs.declared.Entry.{Entry}
 use Rattle.edition_certificate_file.specs.declared.Fault.{Fault}
 use Rattle.edition_certificate_file.specs.declared.Fault.TheVariants.{Other, Torn}
 use Rattle.edition_certificate_file.specs.Files.{Kept, firstLine, lastLine, keptsText}
@@ -74,6 +76,7 @@ use Rattle.edition_certificate_file.specs.Reading.{
   asWritten,
   otherwise,
   certificateRead,
+  keptIn,
   isKept,
   lineFeed,
 }
@@ -280,3 +283,9 @@ written-good text = go (textRead text) (text-good text)
 
 pub read-written : (text : Bytes) (ks : List Kept) → certificateRead text ≡ Ok ks → Written text ks
 read-written text ks h = rw h at (written-good text)
+
+-- what is read of sheets' text is these sheets only where they are writable
+pub read-only-writable : {E : Type 0} (text : Bytes) (ks : List Kept) (r : Result (Result (Vec Entry Global) Fault) E)
+    → IfOk r (λ x. keptIn x ≡ certificateRead text) → IfOk r (λ x. keptIn x ≡ Ok ks → allWritable ks ≡ true)
+read-only-writable text ks (Ok x) h = λ same. (read-written text ks (sym h ∙ same)).1
+read-only-writable text ks (Err e) h = tt

@@ -2,8 +2,8 @@
 //! `certificate_text` writes `keptsText`, and `read_certificate` reads what `certificateRead` says.
 ghost use Rattle.std.specs.Prelude.{◌≡◌, Ok, true, IfOk, map};
 ghost use Rattle.hex.specs.Hex.{IsBytes};
-ghost use Rattle.edition_certificate_file.specs.Files.{keptOf};
-ghost use Rattle.edition_certificate_file.specs.Reading.{keptIn};
+ghost use Rattle.edition_certificate_file.specs.Files.{keptOf, certificateText};
+ghost use Rattle.edition_certificate_file.specs.Reading.{keptIn, certificateRead};
 ghost use Rattle.edition_certificate_file.specs.Theorems.{OnlyWrittenIsRead, WrittenIsRead};
 ghost use Rattle.edition_certificate_file.specs.Writable.{allWritable, isIndented, onOneLine, writable};
 
@@ -38,12 +38,15 @@ pub fn kept_is_writable(entry: &Entry)
     are_bytes(&entry.digest);
 }
 
-/// Writes what is kept of sheets, and reads it again: the same, where it is writable.
+/// Writes what is kept of sheets, and reads it again. Whatever it is, the answer is what `certificateRead` says of its text (`is`): the same sheets where they
+/// are writable (`back`), and only there (`only`).
 pub fn written_and_read(
     alloc: Global,
     entries: &[Entry],
 ) -> Result<Result<Vec<Entry>, Fault>, AllocError>
-    ensures { IfOk result (λ r. allWritable (map keptOf entries.now) ≡ true → keptIn r ≡ Ok (map keptOf entries.now)) }
+    ensures is { IfOk result (λ r. keptIn r ≡ certificateRead (certificateText entries.now)) }
+    ensures back { IfOk result (λ r. allWritable (map keptOf entries.now) ≡ true → keptIn r ≡ Ok (map keptOf entries.now)) }
+    ensures only { IfOk result (λ r. keptIn r ≡ Ok (map keptOf entries.now) → allWritable (map keptOf entries.now) ≡ true) }
 {
     let text = certificate_text(alloc, entries)?;
     read_certificate(alloc, &text)
