@@ -58,7 +58,7 @@ behind-name (b ∷ n) r = let e : suc (length n) + 2 ≡ suc (length n + 2) = om
 
 -- 110 is "n", as in 'not accepted'; 97 is "a"
 not-n : {A : Type 0} {bs cs : Bytes} → 110 ∷ bs ≡ 97 ∷ cs → A
-not-n e = absurd (cc)
+not-n e = let z : ◌≡◌ {A = ℕ} 110 97 = cc in absurd (omega (arith, z))
 
 -- digits, and the ":" behind them, come before every letter
 abbrev Early : ℕ → Type 0

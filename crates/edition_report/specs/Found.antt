@@ -1,5 +1,5 @@
 -- What the code holds of a finding: rows of bindings, bounds and what remains stand at the front of a list.
-use Rattle.std.specs.Prelude.{◌≡◌, List, ◌++◌, ℕ, ◌+◌}
+use Rattle.std.specs.Prelude.{◌≡◌, List, ◌++◌, ℕ}
 use Rattle.rules.specs.Grammar.{ascii}
 use Rattle.rules.specs.Names.{Bytes}
 use Rattle.rules.specs.Refusals.{number_of}
