@@ -23,7 +23,7 @@ pub fn is_plain(b: u8) -> bool
 
 /// A hex digit in small letters.
 #[tactic(auto, unfolding(rules::specs::TextWriting::hexDigit))]
-fn hex_digit(n: u8) -> u8
+pub fn hex_digit(n: u8) -> u8
     requires { n < 16 }
     ensures { result ≡ hexDigit n }
 {
