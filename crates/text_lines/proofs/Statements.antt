@@ -370,7 +370,6 @@ pub inside-quote : Inside (spell (ascii "\""))
 inside-quote = record { stays = quote-in }
 
 module _ {line : Bytes} {i : ℕ} where
-
   pub end-other : i < length line → end_of line (point.At i) (point.Bad i)
   end-other h = record { within = tt; onward = omega arith; value = tt; is = rw (drop-cons line i 0 h); holds = tt }
 

@@ -1,13 +1,11 @@
 //! A line: its constraint's record is counted at its first sign, and written when its types are there.
 ghost use Rattle.std.specs.Prelude.{◌≡◌, ◌<◌, Ok, length};
 ghost use Rattle.rules.specs.Grammar.{ascii, spell, typed, hasField, constraint, signsAt};
-ghost use Rattle.rules.specs.TextReading.{conOf};
-ghost use Rattle.rules.specs.Writing.{writeCon};
 ghost use Rattle.laws.specs.NameTable.{Good};
 ghost use Rattle.text_grammar.specs.declared.inner.Point.TheVariants as point;
 ghost use Rattle.text_grammar.specs.Points.{PointIn, Reads, Any};
-ghost use Rattle.text_names.specs.Effects.{lent, Room, Ready, Writes, Done};
-ghost use Rattle.text_lines.specs.Statements.{end_of, SaysScalar, stated, meantOf, LineTold, LineDone};
+ghost use Rattle.text_names.specs.Effects.{lent, Room, Ready, Done};
+ghost use Rattle.text_lines.specs.Statements.{end_of, SaysScalar, stated, meantOf, LineTold, LineDone, ConEntered, LineEntered};
 ghost use Rattle.text_lines.specs.Answers.{standIn, countIn, answer_of};
 
 use records::View;
@@ -74,35 +72,33 @@ fn enter_typed(
     dst: &mut [u32],
 ) -> Reached
     requires { Ready line.now from.at pool.old table.old from.stand }
-    ensures { Done line.now typed conOf (Writes writeCon) from.at (lent pool.old table.old dst.old from.stand)
-        result.at (lent pool.new table.new dst.new result.stand) }
+    ensures { ConEntered line.now typed from pool.old table.old dst.old result pool.new table.new dst.new }
 {
     let q = next_sign(line, from.at);
     let stand = count(1, place_of(q), from.stand);
     let l = enter_type(line, Reached { at: q, stand }, NESTED, pool, table, dst);
-    let stand = l.stand;
     let e = next_sign(line, l.at);
     let b = byte_at(line, e);
     if b == b'~' {
         let at = mark(line, e, b'~');
-        let t = enter_type(line, Reached { at, stand }, NESTED, pool, table, dst);
+        let t = enter_type(line, Reached { at, ..l }, NESTED, pool, table, dst);
         put_head(View::Equal, from.stand, t.stand, dst);
         return t;
     }
     if b == b':' {
         let m = mark(line, e, b':');
         let at = sign(line, m, b"DType");
-        put_head(View::IsDim, from.stand, stand, dst);
-        return Reached { at, stand };
+        put_head(View::IsDim, from.stand, l.stand, dst);
+        return Reached { at, ..l };
     }
     if says_scalar(line, q, b) {
         let m = mark(line, e, b'=');
         let at = sign(line, m, b"Scalar");
-        put_head(View::IsScalar, from.stand, stand, dst);
-        return Reached { at, stand };
+        put_head(View::IsScalar, from.stand, l.stand, dst);
+        return Reached { at, ..l };
     }
     let at = refuse(e);
-    Reached { at, stand }
+    Reached { at, ..l }
 }
 
 /// A field that a type has.
@@ -114,8 +110,7 @@ fn enter_has_field(
     dst: &mut [u32],
 ) -> Reached
     requires { Ready line.now from.at pool.old table.old from.stand }
-    ensures { Done line.now hasField conOf (Writes writeCon) from.at (lent pool.old table.old dst.old from.stand)
-        result.at (lent pool.new table.new dst.new result.stand) }
+    ensures { ConEntered line.now hasField from pool.old table.old dst.old result pool.new table.new dst.new }
 {
     let q = next_sign(line, from.at);
     let stand = count(1, place_of(q), from.stand);
@@ -124,18 +119,13 @@ fn enter_has_field(
     let l = enter_type(line, Reached { at: b, stand }, NESTED, pool, table, dst);
     let d = mark(line, l.at, b',');
     let e = mark(line, d, b'"');
-    let s = l.stand;
-    let x = read_named(line, Reached { at: e, stand: s }, pool, table);
+    let x = read_named(line, Reached { at: e, ..l }, pool, table);
     let g = quote(line, x.end.at);
-    let at = mark(line, g, b',');
-    let stand = x.end.stand;
-    let t = enter_type(line, Reached { at, stand }, NESTED, pool, table, dst);
-    let end = mark(line, t.at, b')');
+    let f = mark(line, g, b',');
+    let t = enter_type(line, Reached { at: f, ..x.end }, NESTED, pool, table, dst);
+    let at = mark(line, t.at, b')');
     put_head(View::HasField(x.number), from.stand, t.stand, dst);
-    Reached {
-        at: end,
-        stand: t.stand,
-    }
+    Reached { at, ..t }
 }
 
 /// What a line states, by its first byte.
@@ -147,8 +137,7 @@ fn enter_stated(
     dst: &mut [u32],
 ) -> Reached
     requires { Ready line.now from.at pool.old table.old from.stand }
-    ensures { Done line.now stated conOf (Writes writeCon) from.at (lent pool.old table.old dst.old from.stand)
-        result.at (lent pool.new table.new dst.new result.stand) }
+    ensures { ConEntered line.now stated from pool.old table.old dst.old result pool.new table.new dst.new }
 {
     if next_is(line, from.at, b'H') {
         return enter_has_field(line, from, pool, table, dst);
@@ -165,13 +154,12 @@ fn enter_constraint(
     dst: &mut [u32],
 ) -> Reached
     requires { Ready line.now from.at pool.old table.old from.stand }
-    ensures { Done line.now constraint meantOf (LineTold 1) from.at (lent pool.old table.old dst.old from.stand)
-        result.at (lent pool.new table.new dst.new result.stand) }
+    ensures { LineEntered line.now constraint 1 from pool.old table.old dst.old result pool.new table.new dst.new }
 {
     let c = enter_stated(line, from, pool, table, dst);
     let e = next_sign(line, c.at);
     let at = end_at(line, e);
-    Reached { at, stand: c.stand }
+    Reached { at, ..c }
 }
 
 /// A line with a first sign: a comment or a constraint.
@@ -209,8 +197,7 @@ fn enter_signs(
     dst: &mut [u32],
 ) -> Stated
     requires { Ready line.now from.at pool.old table.old from.stand }
-    ensures { Done line.now signsAt meantOf (LineTold result.count) from.at (lent pool.old table.old dst.old from.stand)
-        result.end.at (lent pool.new table.new dst.new result.end.stand) }
+    ensures { LineEntered line.now signsAt result.count from pool.old table.old dst.old result.end pool.new table.new dst.new }
 {
     match from.at {
         Point::At(i) if i < line.len() => enter_from(line, i, from.stand, pool, table, dst),

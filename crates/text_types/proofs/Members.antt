@@ -36,7 +36,7 @@ use Rattle.text_names.proofs.Inside.{inside-column}
 use Rattle.text_names.specs.Stands as stand
 use Rattle.text_types.specs.Parts.{TysTold}
 use Rattle.text_types.proofs.Parts.{Behind, halted-kept, head_at, head-by, kept-headed, fields-long, tys_long}
-use Rattle.text_types.specs.Members.{nameBefore, Risen, stoppedAt, keptIf, fieldRecs, typed, countedTy, risenTy, fieldStep, FieldTold, FieldDone, FieldsTold}
+use Rattle.text_types.specs.Members.{nameBefore, Risen, stoppedAt, keptIf, fieldRecs, typed, countedTy, risenTy, fieldStep, FieldTold, FieldsTold}
 
 pub never_on : (r : Refusal) (at : ℕ) (s : Stand) (i n : ℕ) → stoppedAt r at s ≡ stand.Going i n → ⊥
 never_on r at (Ok tally) i n q = cc
@@ -191,7 +191,7 @@ module _ (ty : Rule TyAt) (b : code.Option ℕ) {line : Bytes} {x x₁ y : Lent}
       → Done line name named (NumberTold x₁.table v) q x a x₁ → at ≡ place_of q → Risen x₁.pool x₁.table b v ok → tested ≡ keptIf ok Malformed at x₁.stand
       → counted ≡ countOf 1 at tested → Reads line a (marked 58) Any c → Done line ty ty_of (Writes writeTy) c (lent x₁.pool x₁.table x₁.dst counted) r y
       → (d : List ℕ) → d ≡ headPut (view.Field v) tested y.stand y.dst
-      → FieldDone line ty b p x r (lent y.pool y.table d y.stand) (code.Some v)
+      → Done line (fieldRule ty) (fieldStep (nameBefore b)) (FieldTold (code.Some v)) p x r (lent y.pool y.table d y.stand)
   field-by h x1 x2 e ris f k x3 x4 d g =
       let o = f ∙ ap (λ (i : ℕ). keptIf ok Malformed i x₁.stand) e in
       field-done ty b h x1 x2 ris x3

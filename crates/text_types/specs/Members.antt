@@ -6,15 +6,17 @@ use Rattle.std.proofs.Math.Option.{Option, none, some}
 use Rattle.rules.specs.Names.{Bytes}
 use Rattle.rules.specs.Trees.{Ty, Fields, size, countFields}
 use Rattle.rules.specs.Writing.{Rec, rec, head, writeTy, writeFields}
-use Rattle.rules.specs.Grammar.{Rule, column, NameAt, name, TyAt}
-use Rattle.rules.specs.TextReading.{Step, onward, give, counted, named, rises, ty_of}
+use Rattle.rules.specs.Grammar.{Rule, column, NameAt, name, TyAt, FieldsAt}
+use Rattle.rules.specs.TextReading.{Step, onward, give, counted, named, rises, ty_of, fields_of}
 use Rattle.rules.specs.declared.Refusal.{Refusal}
 use Rattle.records.specs.Good.{follows}
-use Rattle.text_grammar.specs.declared.inner.Point.{Point}
 use Rattle.text_grammar.specs.Types.{fieldRule}
 use Rattle.text_names.specs.Stands.{Stand}
-use Rattle.text_names.specs.Effects.{Lent, Done}
+use Rattle.text_names.specs.Effects.{Entered}
+use Rattle.text_names.specs.declared.inner.Reached.{Reached}
 use Rattle.text_names.specs.Stands as stand
+use Rattle.text_types.specs.declared.inner.nested.FieldStart.{FieldStart}
+use Rattle.text_types.specs.declared.inner.nested.Row.{Row}
 
 -- ══ A field's name rises ══
 
@@ -60,9 +62,10 @@ pub record FieldTold (b : code.Option ℕ) (xu : ℕ × Ty ℕ) (rs : List Rec) 
   pub name : b ≡ code.Some xu.0
   pub written : rs ≡ fieldRecs xu
 
--- a field: its name behind the one before, and its type; its own name comes before the next
-abbrev pub FieldDone : Bytes → Rule TyAt → code.Option ℕ → Point → Lent → Point → Lent → code.Option ℕ → Type 0
-FieldDone line ty b p x r y b' = Done line (fieldRule ty) (fieldStep (nameBefore b)) (FieldTold b') p x r y
+-- a field was entered: its name behind the one before, and its type; its own name comes before the next
+abbrev pub FieldEntered : Bytes → Rule TyAt → FieldStart → List ℕ → List ℕ → List ℕ → FieldStart → List ℕ → List ℕ → List ℕ → Type 0
+FieldEntered line ty from pool table dst next =
+    Entered line (fieldRule ty) (fieldStep (nameBefore from.before)) (FieldTold next.before) from.here pool table dst next.here
 
 -- ══ Fields in a row ══
 
@@ -70,3 +73,7 @@ FieldDone line ty b p x r y b' = Done line (fieldRule ty) (fieldStep (nameBefore
 pub record FieldsTold (n m : ℕ) (gs : Fields ℕ) (rs : List Rec) : Type 0 where
   pub written : rs ≡ writeFields gs
   pub counted : m ≡ min (n + countFields gs) 4096
+
+-- fields that R reads were entered, as many as the row says, and their records are written
+abbrev pub FieldsEntered : Bytes → Rule FieldsAt → Reached → List ℕ → List ℕ → List ℕ → Row → List ℕ → List ℕ → List ℕ → Type 0
+FieldsEntered line R from pool table dst row = Entered line R (λ fs. fields_of fs none) (FieldsTold 0 row.count) from pool table dst row.end

@@ -1,12 +1,9 @@
 //! Types, nested at most d deep: what each function reads it enters at once. Each goes on from where the one before ended.
-ghost use Rattle.std.proofs.Math.Option.{none};
 ghost use Rattle.rules.specs.Grammar.{type, tys, function, listed, fields, structure};
-ghost use Rattle.rules.specs.TextReading.{ty_of, tys_of, fields_of};
-ghost use Rattle.rules.specs.Writing.{writeTy};
 ghost use Rattle.text_grammar.specs.Types.{paramsThere, typesThere, fieldsThere};
-ghost use Rattle.text_names.specs.Effects.{lent, Ready, Writes, Done};
-ghost use Rattle.text_types.specs.Parts.{TysTold};
-ghost use Rattle.text_types.specs.Members.{FieldsTold, FieldDone};
+ghost use Rattle.text_names.specs.Effects.{Ready, TypeEntered};
+ghost use Rattle.text_types.specs.Parts.{TypesEntered};
+ghost use Rattle.text_types.specs.Members.{FieldsEntered, FieldEntered};
 
 use super::leaves::enter_leaf;
 use super::{one_more, pass_if, rises, too_deep};
@@ -23,10 +20,10 @@ pub struct Row {
     pub count: u32,
 }
 
-/// A field: where it ends, how the sheet stands then, and the name that comes before the next field's.
+/// Where a field may begin, how the sheet stands there, and the name that its own must come after, if there is one.
 #[derive(Clone, Copy)]
-pub struct Member {
-    pub end: Reached,
+pub struct FieldStart {
+    pub here: Reached,
     pub before: Option<u32>,
 }
 
@@ -41,15 +38,13 @@ pub fn enter_type(
     dst: &mut [u32],
 ) -> Reached
     requires { Ready line.now from.at pool.old table.old from.stand }
-    ensures { Done line.now (type d) ty_of (Writes writeTy) from.at (lent pool.old table.old dst.old from.stand)
-        result.at (lent pool.new table.new dst.new result.stand) }
+    ensures { TypeEntered line.now (type d) from pool.old table.old dst.old result pool.new table.new dst.new }
 {
     let q = next_sign(line, from.at);
-    let s = from.stand;
     if d == 0 {
-        return too_deep(line, q, s);
+        return too_deep(line, q, from.stand);
     }
-    let here = Reached { at: q, stand: s };
+    let here = Reached { at: q, ..from };
     match byte_at(line, q) {
         b'F' => enter_function(line, here, d - 1, pool, table, dst),
         b'L' => enter_list(line, here, d - 1, pool, table, dst),
@@ -69,8 +64,7 @@ fn enter_list(
     dst: &mut [u32],
 ) -> Reached
     requires { Ready line.now from.at pool.old table.old from.stand }
-    ensures { Done line.now (listed (type d)) ty_of (Writes writeTy) from.at (lent pool.old table.old dst.old from.stand)
-        result.at (lent pool.new table.new dst.new result.stand) }
+    ensures { TypeEntered line.now (listed (type d)) from pool.old table.old dst.old result pool.new table.new dst.new }
 {
     let q = next_sign(line, from.at);
     let now = count(1, place_of(q), from.stand);
@@ -79,7 +73,7 @@ fn enter_list(
     let t = enter_type(line, Reached { at: b, stand: now }, d, pool, table, dst);
     let at = mark(line, t.at, b'>');
     put_head(View::List, from.stand, t.stand, dst);
-    Reached { at, stand: t.stand }
+    Reached { at, ..t }
 }
 
 /// A function from and to types nested at most d deep.
@@ -93,8 +87,7 @@ fn enter_function(
     dst: &mut [u32],
 ) -> Reached
     requires { Ready line.now from.at pool.old table.old from.stand }
-    ensures { Done line.now (function (type d)) ty_of (Writes writeTy) from.at (lent pool.old table.old dst.old from.stand)
-        result.at (lent pool.new table.new dst.new result.stand) }
+    ensures { TypeEntered line.now (function (type d)) from pool.old table.old dst.old result pool.new table.new dst.new }
 {
     let q = next_sign(line, from.at);
     let now = count(1, place_of(q), from.stand);
@@ -104,11 +97,10 @@ fn enter_function(
     let ps = enter_params(line, Reached { at: c, stand: now }, d, pool, table, dst);
     let f = mark(line, ps.end.at, b')');
     let g = sign(line, f, b"->");
-    let s = ps.end.stand;
-    let t = enter_type(line, Reached { at: g, stand: s }, d, pool, table, dst);
+    let t = enter_type(line, Reached { at: g, ..ps.end }, d, pool, table, dst);
     let at = mark(line, t.at, b']');
     put_head(View::Function(ps.count), from.stand, t.stand, dst);
-    Reached { at, stand: t.stand }
+    Reached { at, ..t }
 }
 
 /// The parameters of a function, if it has any.
@@ -122,8 +114,7 @@ fn enter_params(
     dst: &mut [u32],
 ) -> Row
     requires { Ready line.now from.at pool.old table.old from.stand }
-    ensures { Done line.now (paramsThere (type d)) tys_of (TysTold 0 result.count) from.at (lent pool.old table.old dst.old from.stand)
-        result.end.at (lent pool.new table.new dst.new result.end.stand) }
+    ensures { TypesEntered line.now (paramsThere (type d)) from pool.old table.old dst.old result pool.new table.new dst.new }
 {
     if next_is(line, from.at, b')') {
         return Row {
@@ -145,16 +136,14 @@ fn enter_types(
     dst: &mut [u32],
 ) -> Row
     requires { Ready line.now from.at pool.old table.old from.stand }
-    ensures { Done line.now (tys (type d)) tys_of (TysTold 0 result.count) from.at (lent pool.old table.old dst.old from.stand)
-        result.end.at (lent pool.new table.new dst.new result.end.stand) }
+    ensures { TypesEntered line.now (tys (type d)) from pool.old table.old dst.old result pool.new table.new dst.new }
 {
     let first = enter_type(line, from, d, pool, table, dst);
     let mut end = first;
     let mut n = 1;
     while next_is(line, end.at, b',') {
         let a = mark(line, end.at, b',');
-        let s = end.stand;
-        end = enter_type(line, Reached { at: a, stand: s }, d, pool, table, dst);
+        end = enter_type(line, Reached { at: a, ..end }, d, pool, table, dst);
         n = one_more(n);
     }
     Row { end, count: n }
@@ -171,8 +160,7 @@ fn enter_structure(
     dst: &mut [u32],
 ) -> Reached
     requires { Ready line.now from.at pool.old table.old from.stand }
-    ensures { Done line.now (structure (type d)) ty_of (Writes writeTy) from.at (lent pool.old table.old dst.old from.stand)
-        result.at (lent pool.new table.new dst.new result.stand) }
+    ensures { TypeEntered line.now (structure (type d)) from pool.old table.old dst.old result pool.new table.new dst.new }
 {
     let q = next_sign(line, from.at);
     let now = count(1, place_of(q), from.stand);
@@ -196,8 +184,7 @@ fn enter_arguments(
     dst: &mut [u32],
 ) -> Row
     requires { Ready line.now from.at pool.old table.old from.stand }
-    ensures { Done line.now (typesThere (type d)) tys_of (TysTold 0 result.count) from.at (lent pool.old table.old dst.old from.stand)
-        result.end.at (lent pool.new table.new dst.new result.end.stand) }
+    ensures { TypesEntered line.now (typesThere (type d)) from pool.old table.old dst.old result pool.new table.new dst.new }
 {
     if !next_is(line, from.at, b'<') {
         return Row {
@@ -206,14 +193,10 @@ fn enter_arguments(
         };
     }
     let a = mark(line, from.at, b'<');
-    let s = from.stand;
-    let ts = enter_types(line, Reached { at: a, stand: s }, d, pool, table, dst);
+    let ts = enter_types(line, Reached { at: a, ..from }, d, pool, table, dst);
     let at = mark(line, ts.end.at, b'>');
-    let stand = ts.end.stand;
-    Row {
-        end: Reached { at, stand },
-        count: ts.count,
-    }
+    let end = Reached { at, ..ts.end };
+    Row { end, ..ts }
 }
 
 /// The fields of a structure, if it has any.
@@ -227,8 +210,7 @@ fn enter_members(
     dst: &mut [u32],
 ) -> Row
     requires { Ready line.now from.at pool.old table.old from.stand }
-    ensures { Done line.now (fieldsThere (type d)) (λ fs. fields_of fs none) (FieldsTold 0 result.count) from.at (lent pool.old table.old dst.old from.stand)
-        result.end.at (lent pool.new table.new dst.new result.end.stand) }
+    ensures { FieldsEntered line.now (fieldsThere (type d)) from pool.old table.old dst.old result pool.new table.new dst.new }
 {
     if !next_is(line, from.at, b'{') {
         return Row {
@@ -237,14 +219,10 @@ fn enter_members(
         };
     }
     let a = mark(line, from.at, b'{');
-    let s = from.stand;
-    let fs = enter_fields(line, Reached { at: a, stand: s }, d, pool, table, dst);
+    let fs = enter_fields(line, Reached { at: a, ..from }, d, pool, table, dst);
     let at = mark(line, fs.end.at, b'}');
-    let stand = fs.end.stand;
-    Row {
-        end: Reached { at, stand },
-        count: fs.count,
-    }
+    let end = Reached { at, ..fs.end };
+    Row { end, ..fs }
 }
 
 /// One field or more, each further one behind a comma.
@@ -258,52 +236,52 @@ fn enter_fields(
     dst: &mut [u32],
 ) -> Row
     requires { Ready line.now from.at pool.old table.old from.stand }
-    ensures { Done line.now (fields (type d)) (λ fs. fields_of fs none) (FieldsTold 0 result.count) from.at (lent pool.old table.old dst.old from.stand)
-        result.end.at (lent pool.new table.new dst.new result.end.stand) }
+    ensures { FieldsEntered line.now (fields (type d)) from pool.old table.old dst.old result pool.new table.new dst.new }
 {
-    let first = enter_field(line, from, d, None, pool, table, dst);
-    let mut f = first;
+    let start = FieldStart {
+        here: from,
+        before: None,
+    };
+    let first = enter_field(line, start, d, pool, table, dst);
+    let mut next = first;
     let mut n = 1;
-    while next_is(line, f.end.at, b',') {
-        let a = mark(line, f.end.at, b',');
-        let s = f.end.stand;
-        let next = Reached { at: a, stand: s };
-        f = enter_field(line, next, d, f.before, pool, table, dst);
+    while next_is(line, next.here.at, b',') {
+        let a = mark(line, next.here.at, b',');
+        let here = Reached { at: a, ..next.here };
+        let start = FieldStart { here, ..next };
+        next = enter_field(line, start, d, pool, table, dst);
         n = one_more(n);
     }
     Row {
-        end: f.end,
+        end: next.here,
         count: n,
     }
 }
 
-/// A field behind the one named before: its name must rise, its record is counted at the name.
+/// A field, up to where the next may begin: its name must rise, its record is counted at the name.
 #[cycle(types)]
 fn enter_field(
     line: &[u8],
-    from: Reached,
+    from: FieldStart,
     d: usize,
-    before: Option<u32>,
     pool: &mut [u8],
     table: &mut [u32],
     dst: &mut [u32],
-) -> Member
-    requires { Ready line.now from.at pool.old table.old from.stand }
-    ensures { FieldDone line.now (type d) before from.at (lent pool.old table.old dst.old from.stand)
-        result.end.at (lent pool.new table.new dst.new result.end.stand) result.before }
+) -> FieldStart
+    requires { Ready line.now from.here.at pool.old table.old from.here.stand }
+    ensures { FieldEntered line.now (type d) from pool.old table.old dst.old result pool.new table.new dst.new }
 {
-    let q = next_sign(line, from.at);
-    let s = from.stand;
-    let x = read_named(line, Reached { at: q, stand: s }, pool, table);
+    let q = next_sign(line, from.here.at);
+    let x = read_named(line, Reached { at: q, ..from.here }, pool, table);
     let at = place_of(q);
     let names = NameTable { pool, table };
-    let tested = pass_if(rises(names, before, x.number), at, x.end.stand);
+    let tested = pass_if(rises(names, from.before, x.number), at, x.end.stand);
     let now = count(1, at, tested);
     let c = mark(line, x.end.at, b':');
     let end = enter_type(line, Reached { at: c, stand: now }, d, pool, table, dst);
     put_head(View::Field(x.number), tested, end.stand, dst);
-    Member {
-        end,
+    FieldStart {
+        here: end,
         before: Some(x.number),
     }
 }

@@ -23,7 +23,7 @@ quote-g-requires c =
 
 pub enter_type-t-requires : goal.enter_type-t-requires
 enter_type-t-requires c =
-    ready_on (inside-spelled _) c.mark-at.ensures.reads
+    ready_on (inside-spelled _) c.mark-f.ensures.reads
     (ready_on inside-quote c.quote-g.ensures (ready-next (c.read_named-x.ensures [])))
 
 pub put_head-requires : goal.put_head-requires
@@ -37,4 +37,4 @@ returns c =
     hasfield-done c.requires c.next_sign-q.ensures c.sign-a.ensures c.mark-b.ensures.reads
     (from-counted c.next_sign-q.result c.args.from.stand c.place_of.ensures c.count-stand.ensures c.enter_type-l.ensures)
     c.mark-d.ensures.reads c.mark-e.ensures.reads (c.read_named-x.ensures _) c.quote-g.ensures
-    c.mark-at.ensures.reads c.enter_type-t.ensures c.mark-end.ensures.reads _ c.put_head.ensures
+    c.mark-f.ensures.reads c.enter_type-t.ensures c.mark-at.ensures.reads _ c.put_head.ensures

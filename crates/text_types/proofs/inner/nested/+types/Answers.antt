@@ -61,7 +61,7 @@ enter_field-put_head-requires t c =
 
 pub enter_field-returns : goal.enter_field-returns
 enter_field-returns t c =
-    field-by (type _) c.args.before c.requires c.next_sign-q.ensures (c.read_named-x.ensures _)
+    field-by (type _) c.args.from.before c.requires c.next_sign-q.ensures (c.read_named-x.ensures _)
     c.place_of-at.ensures c.rises.ensures c.pass_if-tested.ensures c.count-now.ensures
     c.mark-c.ensures.reads c.enter_type-end.ensures _ c.put_head.ensures
 
@@ -73,20 +73,20 @@ pub enter_fields-loop-a-init : goal.enter_fields-loop-a-init
 enter_fields-loop-a-init t c =
     fields-start (type _) (ready-next c.enter_field-first.ensures) (omega arith)
 
-pub enter_fields-enter_field-f-requires : goal.enter_fields-enter_field-f-requires
-enter_fields-enter_field-f-requires t c =
+pub enter_fields-enter_field-next-requires : goal.enter_fields-enter_field-next-requires
+enter_fields-enter_field-next-requires t c =
     (omega (arith, c.decreases), ready_on (inside-spelled _) c.mark-a.ensures.reads c.loop-a.invariant.ready)
 
 pub enter_fields-loop-a-smaller : goal.enter_fields-loop-a-smaller
 enter_fields-loop-a-smaller t c =
     fields-fall c.loop-a.invariant (sym c.loop-a-test.true ∙ c.next_is.ensures) c.mark-a.ensures
-    c.enter_field-f.ensures
+    c.enter_field-next.ensures
 
 pub enter_fields-loop-a-preserved : goal.enter_fields-loop-a-preserved
 enter_fields-loop-a-preserved t c =
     rw c.one_more-n.ensures
     (fields-turn c.loop-a.invariant (sym c.loop-a-test.true ∙ c.next_is.ensures) c.mark-a.ensures
-    c.enter_field-f.ensures)
+    c.enter_field-next.ensures)
 
 pub enter_fields-returns : goal.enter_fields-returns
 enter_fields-returns t c =

@@ -37,11 +37,12 @@ decreases-enter_types l = l.d * 8 + 5
 
 abbrev pub invariant-enter_fields-loop-a : goal.invariant-enter_fields-loop-a
 invariant-enter_fields-loop-a l =
-    FieldsLoop (type l.d) l.line l.initial.f.end.at (lent l.initial.pool l.initial.table l.initial.dst l.initial.f.end.stand) l.initial.n l.initial.f.before
-    l.f.end.at (lent l.pool l.table l.dst l.f.end.stand) l.n l.f.before
+    let start = l.initial.next in
+    FieldsLoop (type l.d) l.line start.here.at (lent l.initial.pool l.initial.table l.initial.dst start.here.stand) l.initial.n start.before l.next.here.at
+    (lent l.pool l.table l.dst l.next.here.stand) l.n l.next.before
 
 abbrev pub decreases-enter_fields-loop-a : goal.decreases-enter_fields-loop-a
-decreases-enter_fields-loop-a l = left_at l.line l.f.end.at
+decreases-enter_fields-loop-a l = left_at l.line l.next.here.at
 
 abbrev pub invariant-enter_types-loop-a : goal.invariant-enter_types-loop-a
 invariant-enter_types-loop-a l =
