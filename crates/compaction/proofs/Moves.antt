@@ -1,7 +1,7 @@
 -- Names that move up in the pool, and their ends in the table.
 use Rattle.std.specs.Prelude.{◌≡◌, refl, Bool, true, false, take}
 use Rattle.std.proofs.Math.Path.{sym, ap, ap₂}
-use Rattle.std.proofs.Common.{◌∙◌, arith, add-zero, zero-add, add-one, drop-set-lt, get_or-set_other, take-add, drop_at, length-take-le}
+use Rattle.std.proofs.Common.{◌∙◌, arith, add-zero, add-one, drop-set-lt, get_or-set_other, take-add, drop_at, length-take-le}
 use mathlib.Core.List.{List, [], ◌∷◌, ◌++◌, append_assoc, append-nil}
 use Prim.Native.Nat.{ℕ, suc, ◌+◌, ◌-◌, ◌≤◌, ◌<◌}
 use Rattle.std.proofs.Math.ListN.{length, drop, get_or, set, replicate, length-append, length-replicate}

@@ -7,7 +7,7 @@ ghost use Rattle.rules.specs.Names.{table_of};
 ghost use Rattle.rules.specs.Offices.{namesOne};
 ghost use Rattle.rules.specs.Writing.{kindIn};
 ghost use Rattle.laws.specs.NameTable.{Good};
-ghost use Rattle.rules.specs.Compaction.{oneIf, newNumber, renumberIf, renumbered};
+ghost use Rattle.rules.specs.Compaction.{newNumber, renumberIf, renumbered};
 ghost use Rattle.compaction.specs.Told.{marks, Noted, Marked, Numbered};
 ghost use Rattle.compaction.specs.Told.{metSet, metSets};
 ghost use Rattle.compaction.specs.Told.{Squeezed};
@@ -52,12 +52,6 @@ pub fn mark(s: &[u32], n: usize, m: &mut [bool; NAMES])
     }
 }
 
-fn one_if(b: bool) -> u32
-    ensures { (result ≡ oneIf b) × (result ≤ 1) }
-{
-    if b { 1 } else { 0 }
-}
-
 // How many marks stand before a.
 fn number_of(m: &[bool; NAMES], a: u32) -> u32
     requires { length m.now ≡ 256 }
@@ -69,7 +63,7 @@ fn number_of(m: &[bool; NAMES], a: u32) -> u32
         if NAMES <= i {
             return k;
         }
-        k += one_if(m[i]);
+        k += u32::from(m[i]);
     }
     k
 }
