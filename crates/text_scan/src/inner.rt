@@ -134,10 +134,11 @@ fn digit_at(line: &[u8], at: usize) -> Option<u64>
     if line.len() <= at {
         return None;
     }
-    match line[at] {
-        b @ b'0'..=b'9' => Some(u64::from(b - b'0')),
-        _ => None,
+    let b = line[at];
+    if !b.is_ascii_digit() {
+        return None;
     }
+    Some(u64::from(b - b'0'))
 }
 
 /// Reads the digits that begin at a place.

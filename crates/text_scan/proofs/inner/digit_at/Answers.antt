@@ -1,6 +1,5 @@
 -- `inner::digit_at` meets its contract.
-use native.Mathlib.Omega.{arith}
-use Rattle.std.proofs.lemmas.Bool.Decides.{nat_tests}
+use Rattle.std.proofs.Common.{arith, sym, ◌∙◌}
 use Rattle.rules.specs.Grammar.{isDigit}
 use Rattle.text_scan.proofs.Numbers.{stop-end, stop-other}
 use Rattle.text_scan.proofs.inner.digit_at.Goals as goal
@@ -8,10 +7,6 @@ use Rattle.text_scan.proofs.inner.digit_at.Goals as goal
 pub returns-then-line-at : goal.returns-then-line-at
 returns-then-line-at c = stop-end _ _ (omega arith)
 
-pub returns-in_default : goal.returns-in_default
+pub returns-then-not-is_ascii_digit : goal.returns-then-not-is_ascii_digit
 unfolding isDigit
-returns-in_default c = stop-other _ _ (omega arith) (grind (arith, nat_tests))
-
-pub returns-in_default-2 : goal.returns-in_default-2
-unfolding isDigit
-returns-in_default-2 c = stop-other _ _ (omega arith) (grind (arith, nat_tests))
+returns-then-not-is_ascii_digit c = stop-other _ _ (omega arith) (sym c.is_ascii_digit.ensures.value ∙ c.if-not-is_ascii_digit.true)
