@@ -1,5 +1,5 @@
 -- The steps of a line one by one from a place on, in words, and read.
-use Rattle.std.specs.Prelude.{ℕ, ◌-◌}
+use Rattle.std.specs.Prelude.{ℕ}
 use mathlib.Core.List.{[], ◌∷◌}
 use Rattle.rules.specs.Base.{Got, got, ◌>>◌}
 use Rattle.rules.specs.Writing.{Rec, rec}

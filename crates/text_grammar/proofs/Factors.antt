@@ -1,6 +1,6 @@
 -- What follows from the definitions of specs/Factors: names, factors and dimensions from point to point.
-use Rattle.std.specs.Prelude.{◌≡◌, refl, Bool, true, false, leb, length, drop, get_or}
-use Rattle.std.proofs.Common.{sym, ap, ◌∙◌, true≢false, arith, ne_eqb, leb-true, leb-false, drop_of_length-le, length-drop, drop-cons}
+use Rattle.std.specs.Prelude.{◌≡◌, refl, Bool, true, false, leb, length, drop}
+use Rattle.std.proofs.Common.{sym, ap, ◌∙◌, true≢false, arith, ne_eqb, leb-true, leb-false, drop_of_length-le, length-drop}
 use mathlib.Core.List.{List, [], ◌∷◌}
 use Prim.Native.Nat.{ℕ, suc, ◌-◌, ◌≤◌, ◌<◌}
 use Prim.Native.Char.{Char, code}

@@ -1,10 +1,10 @@
 -- Names, factors and dimensions from point to point.
 use Rattle.std.specs.Prelude.{drop}
 use mathlib.Core.List.{List, [], ◌∷◌}
-use Prim.Native.Nat.{ℕ, ◌-◌}
+use Prim.Native.Nat.{ℕ}
 use Rattle.rules.specs.Names.{Bytes}
 use Rattle.rules.specs.Trees.{Atom, base}
-use Rattle.rules.specs.Grammar.{Rule, give, ifSign, column}
+use Rattle.rules.specs.Grammar.{Rule, give, ifSign}
 use Rattle.rules.specs.Grammar.{choose, NameAt, PowerAt, power, noPower, FactorAt, marks, factors}
 use Rattle.text_grammar.specs.declared.inner.Point.TheVariants as point
 use Rattle.text_grammar.specs.declared.inner.Point.{Point}

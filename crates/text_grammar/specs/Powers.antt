@@ -1,6 +1,6 @@
 -- A power, sign by sign.
 use Rattle.std.specs.Prelude.{◌≡◌, Bool, true, false, ℕ}
-use Rattle.rules.specs.Grammar.{Rule, give, sign, ifSign, column, digits, PowerAt, signedBy, ◌>>◌}
+use Rattle.rules.specs.Grammar.{Rule, give, sign, ifSign, digits, PowerAt, signedBy, ◌>>◌}
 use Rattle.text_grammar.specs.declared.inner.Point.{Point}
 use Rattle.text_grammar.specs.Points.{Capped, columnAt}
 

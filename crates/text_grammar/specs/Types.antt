@@ -1,5 +1,4 @@
 -- Types from point to point, whatever the rule for the types inside, and what is known of a type by what is known of its parts.
-use Prim.Native.Nat.{◌<◌}
 use Rattle.rules.specs.Grammar.{Rule, give, sign, ifSign, NameAt, TyAt, TysAt}
 use Rattle.rules.specs.Grammar.{nilAt, FieldsAt, noneAt, tys, fieldName}
 use Rattle.rules.specs.Grammar.{fields, ◌>>=◌, ◌>>◌}

@@ -1,6 +1,6 @@
 -- Rules that from a place in a line never go behind a type nested 65 deep: signs, digits, powers.
 use Rattle.std.specs.Prelude.{◌≡◌, refl, Bool, true, false, [], ◌∷◌, ℕ, suc, ◌+◌, ◌-◌, ◌*◌, eqb}
-use Rattle.std.proofs.Common.{sym, ap, ◌∙◌, arith}
+use Rattle.std.proofs.Common.{sym, ap, ◌∙◌}
 use Prim.Native.Char.{Char}
 use Rattle.rules.specs.Names.{Bytes}
 use Rattle.rules.specs.Grammar.{Place, here, beyond, Parsed, read, bad, Rule, pass, give, skip, skipFrom, isBlank, spell, spellFrom, starts, either}

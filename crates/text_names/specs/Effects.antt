@@ -1,5 +1,5 @@
 -- What a step of a sheet's meaning did to all that is lent, and steps in turn.
-use Rattle.std.specs.Prelude.{◌≡◌, refl, List, ◌++◌, ℕ, suc, ◌+◌, ◌-◌, ◌*◌, ◌≤◌, length, drop, get_or, Err}
+use Rattle.std.specs.Prelude.{◌≡◌, refl, List, ◌++◌, ℕ, suc, ◌+◌, ◌*◌, ◌≤◌, length, drop, get_or, Err}
 use Rattle.std.specs.Prelude.{Ok}
 use Rattle.std.proofs.Common.{ap, ◌∙◌, append_assoc, arith}
 use Rattle.std.proofs.lemmas.List.Edits.{sets}

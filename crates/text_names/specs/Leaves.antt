@@ -1,7 +1,7 @@
 -- Types without a type inside, read and written.
 use Rattle.std.specs.Prelude.{Bool, true, false, ℕ}
 use Rattle.rules.specs.Names.{Bytes}
-use Rattle.rules.specs.Trees.{var, par, opened, boolean, string, datetime}
+use Rattle.rules.specs.Trees.{var, par, boolean, string, datetime}
 use Rattle.rules.specs.Grammar.{Rule, ascii, TyAt}
 use Rattle.rules.specs.Grammar as Grammar
 use Rattle.records.specs.declared.Basic.{Basic}

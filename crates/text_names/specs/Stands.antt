@@ -2,7 +2,6 @@
 use Rattle.text_grammar.specs.declared.inner.Point.TheVariants as point
 use Rattle.text_grammar.specs.declared.inner.Point.{Point}
 use Rattle.std.specs.Prelude.{◌≡◌, Bool, true, false, List, [], ◌∷◌, ℕ, ◌+◌, ◌-◌, ◌*◌, ◌≤◌, leb, Result, Err, Ok}
-use Rattle.std.proofs.Common.{arith}
 use Rattle.std.proofs.lemmas.List.Edits.{sets}
 use Rattle.rules.specs.Writing.{words}
 use Rattle.rules.specs.declared.Refusal.{Refusal}

@@ -1,7 +1,7 @@
 -- With closed references, where the solver accepts, whatever was asked to be a dimension is one. So the premise of soundness holds, and the judge says
 -- yes, 7 or 8: 11 needs an open reference.
 use Rattle.std.proofs.Math.Path.{◌≡◌, refl, subst}
-use Rattle.std.proofs.Common.{ap, ◌∙◌, sym, arith}
+use Rattle.std.proofs.Common.{ap, ◌∙◌, sym}
 use Rattle.std.proofs.Math.Option.{Option, none, some}
 use Rattle.std.specs.Prelude.{◌⊎◌}
 use Rattle.std.proofs.Math.Logic.{inl, inr}

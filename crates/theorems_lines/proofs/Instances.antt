@@ -1,7 +1,7 @@
 -- Instances: kilometres, which an earlier line has, divided by hours. The line is answered, so by the theorem it runs to its end; and a line that
 -- is answered, but whose reference is open, of which that is not promised.
 use Rattle.std.specs.Prelude.{◌≡◌, refl, true, List, [], ◌∷◌, ◌++◌, ℕ}
-use Rattle.std.proofs.Common.{ap, ◌∙◌, sym, arith}
+use Rattle.std.proofs.Common.{ap, ◌∙◌, sym}
 use Rattle.rules.specs.Base.{got}
 use Rattle.rules.specs.Trees.{var, opened, dim}
 use Rattle.rules.specs.Names.{table_of, numbersOf}

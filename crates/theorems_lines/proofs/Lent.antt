@@ -1,7 +1,7 @@
 -- With closed references, a line's answer depends on the lent names in no way, not even on the order of their bytes; only the judge's 7 and 8 may.
 use Rattle.std.specs.Prelude.{◌≡◌, Bool, ◌⊎◌, leb, length}
 use Rattle.std.proofs.Math.Path.{refl, ap, sym, subst}
-use Rattle.std.proofs.Common.{◌∙◌, arith}
+use Rattle.std.proofs.Common.{◌∙◌}
 use Rattle.std.proofs.Math.Bool.{true, false}
 use Rattle.std.proofs.Math.Option.{Option, none, some, get_or}
 use Rattle.std.proofs.Math.Logic.{inl, inr}

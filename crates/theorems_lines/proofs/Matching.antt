@@ -6,8 +6,7 @@ use Rattle.std.specs.Prelude.{Bool, not, ◌||◌, ◌⊎◌}
 use Rattle.std.proofs.Math.Bool.{true, false}
 use Rattle.std.proofs.Math.Option.{Option, none, some, get_or}
 use mathlib.Core.List.{List, [], cons≢nil}
-use Prim.Native.Nat.{ℕ, Ordering}
-use native.Mathlib.Omega.{arith}
+use Prim.Native.Nat.{Ordering}
 use Rattle.rules.specs.Base.{got, exact, all, collect, is_none}
 use Rattle.rules.specs.Exponents.{Exp, one, isZero, neg}
 use Rattle.rules.specs.Trees.{

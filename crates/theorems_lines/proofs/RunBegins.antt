@@ -1,7 +1,7 @@
 -- A closed line that runs to its end: its set is as RunFlow says, each step's variable with the type that the run has for it.
 use Rattle.std.proofs.Math.Path.{◌≡◌, refl, ap, sym, subst}
-use Rattle.std.proofs.Common.{◌∙◌, arith}
-use Rattle.std.specs.Prelude.{Bool, true, false, ℕ}
+use Rattle.std.proofs.Common.{◌∙◌}
+use Rattle.std.specs.Prelude.{Bool, true, false}
 use Rattle.std.proofs.Math.Option.{Option, none, some}
 use mathlib.Core.List.{List, [], ◌∷◌, ◌++◌, map, Memᴰ}
 use Prim.Native.Nat.{Ordering}

@@ -28,7 +28,7 @@ use Rattle.laws.specs.Powers.{Proper}
 use Rattle.laws.proofs.Powers.{raise-one, raise-proper, merge-comm}
 use Rattle.laws.specs.Lists.{All, all_nil, all_cons, in_head}
 use Rattle.laws.proofs.Lists.{all_append, yes-is, got≢refused}
-use Rattle.laws.proofs.Occurs.{each_opens, opens-each, merge_on, raise-on}
+use Rattle.laws.proofs.Occurs.{each_opens, opens-each, raise-on}
 use Rattle.theorems_soundness.specs.Claims.{type_of}
 use Rattle.rules.specs.Lines.{twoFactors}
 use Rattle.theorems_lines.proofs.Shut.{Never, Shut, equal-shut, shut-same, shut-con}

@@ -1,11 +1,11 @@
 -- A closed constraint that is true is never refused and never remains: it is taken away, or split into closed ones that are true.
 use Rattle.std.proofs.Math.Path.{◌≡◌, refl, ap, subst}
-use Rattle.std.proofs.Common.{◌∙◌, sym, arith}
+use Rattle.std.proofs.Common.{◌∙◌, sym}
 use Rattle.std.proofs.Math.Bool.{false}
 use Rattle.std.proofs.Math.Option.{Option, none, some}
 use Rattle.std.specs.Prelude.{◌⊎◌, List, [], ◌∷◌}
 use Rattle.std.proofs.Math.Logic.{inl, inr}
-use Prim.Native.Nat.{ℕ, suc}
+use Prim.Native.Nat.{suc}
 use borrow.Author.Tests.{eq-eqb}
 use Rattle.rules.specs.Base.{Got, got, bounded, collect, and_then}
 use Rattle.rules.specs.Trees.{
