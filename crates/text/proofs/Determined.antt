@@ -1,6 +1,6 @@
 -- The contracts leave no choice: two results that one of them allows coincide; and each answer has the number of its outcome.
 use Rattle.std.specs.Prelude.{◌≡◌, refl, ℕ, Ok, Err}
-use Rattle.std.proofs.Common.{sym, ◌∙◌, arith}
+use Rattle.std.proofs.Common.{sym, ◌∙◌}
 use Rattle.std.proofs.Math.Path.{ap}
 use Rattle.rules.specs.Calls.{Listed}
 use Rattle.rules.specs.Numbers.{refusalIn, number, refusalRead}

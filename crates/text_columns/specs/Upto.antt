@@ -1,5 +1,5 @@
 -- A sheet read line after line: how far it is read, and how it ends.
-use Rattle.std.specs.Prelude.{◌≡◌, ℕ, ◌+◌, ◌≤◌, drop}
+use Rattle.std.specs.Prelude.{◌≡◌, ℕ, ◌≤◌, drop}
 use mathlib.Core.List.{List, ◌++◌}
 use Rattle.std.proofs.Math.ListN.{length}
 use Rattle.std.proofs.lemmas.List.Edits.{sets}

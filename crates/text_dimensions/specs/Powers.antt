@@ -1,7 +1,7 @@
 -- A factor's power: its worth, or 7 at its sign.
 use Rattle.std.specs.Prelude.{◌≡◌, List, [], ℕ, pos, Result, Err, Ok}
 use Rattle.rules.specs.Exponents.{Exp}
-use Rattle.rules.specs.Grammar.{column, PowerAt}
+use Rattle.rules.specs.Grammar.{PowerAt}
 use Rattle.rules.specs.declared.Refusal.{Refusal}
 use Rattle.rules.specs.Writing.{Rec}
 use Rattle.rules.specs.TextReading.{Step, placed, powerOf}

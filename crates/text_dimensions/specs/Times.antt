@@ -2,7 +2,7 @@
 use Rattle.std.proofs.Math.Path.{◌≡◌}
 use Rattle.std.specs.Prelude.{ℕ, suc}
 use mathlib.Core.List.{List, []}
-use Rattle.rules.specs.Base.{refused, bounded}
+use Rattle.rules.specs.Base.{bounded}
 use Rattle.rules.specs.Exponents.{Exp}
 use Rattle.rules.specs.Products.{put, multiply}
 use Rattle.rules.specs.TextReading.{Step, placed, namesSofar}

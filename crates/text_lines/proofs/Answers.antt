@@ -7,7 +7,6 @@ use Rattle.text_grammar.specs.declared.inner.Point.{Point}
 use Rattle.text_grammar.specs.Points.{Reads, columnAt}
 use Rattle.text_names.specs.Effects.{Lent, lent, Done}
 use Rattle.text_names.specs.Stands.{Stand}
-use Rattle.text_names.specs.declared.inner.At.{At}
 use Rattle.text_names.specs.Stands as stand
 use Rattle.text_lines.specs.Statements.{meantOf, LineTold, LineDone}
 use Rattle.text_lines.proofs.Statements.{line-done, line-bad, line_refused}

@@ -44,7 +44,7 @@ use Rattle.text_names.specs.Stands as stand
 use Rattle.text_types.proofs.Parts.{Behind, head-by, kept-headed}
 use Rattle.text_types.proofs.Rows.{none-halted}
 use Rattle.text_lines.proofs.Shapes.{isDimension, type-dimension}
-use Rattle.text_lines.specs.Statements.{SaysScalar, end_of, meantOf, LineTold, stated, LineDone}
+use Rattle.text_lines.specs.Statements.{end_of, meantOf, LineTold, stated, LineDone}
 
 -- ══ The records of a constraint ══
 

@@ -5,7 +5,7 @@ use mathlib.Core.List.{List, [], ◌∷◌}
 use Rattle.std.proofs.Math.Option.{Option, none, some}
 use Rattle.rules.specs.Base.{collect}
 use Rattle.rules.specs.Names.{Bytes}
-use Rattle.rules.specs.Trees.{Con, hasField}
+use Rattle.rules.specs.Trees.{Con}
 use Rattle.rules.specs.Writing.{Rec, writeCon}
 use Rattle.rules.specs.Grammar.{Rule}
 use Rattle.rules.specs.Grammar.{ifSign, end_at}

@@ -6,7 +6,7 @@ use Rattle.std.proofs.Math.Option.{Option, none, some}
 use Rattle.rules.specs.Names.{Bytes}
 use Rattle.rules.specs.Trees.{Ty, Fields, size, countFields}
 use Rattle.rules.specs.Writing.{Rec, rec, head, writeTy, writeFields}
-use Rattle.rules.specs.Grammar.{Rule, column, NameAt, name, TyAt, FieldsAt}
+use Rattle.rules.specs.Grammar.{Rule, NameAt, TyAt, FieldsAt}
 use Rattle.rules.specs.TextReading.{Step, onward, give, counted, named, rises, ty_of, fields_of}
 use Rattle.rules.specs.declared.Refusal.{Refusal}
 use Rattle.records.specs.Good.{follows}

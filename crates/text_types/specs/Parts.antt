@@ -4,7 +4,7 @@ use Rattle.rules.specs.Names.{Bytes}
 use Rattle.rules.specs.Trees.{Tys, count}
 use Rattle.rules.specs.Writing.{Rec, writeTys}
 use Rattle.rules.specs.Grammar.{Rule, TysAt}
-use Rattle.rules.specs.TextReading.{counted, tys_of}
+use Rattle.rules.specs.TextReading.{tys_of}
 use Rattle.text_names.specs.Effects.{Entered}
 use Rattle.text_names.specs.declared.inner.Reached.{Reached}
 use Rattle.text_types.specs.declared.inner.nested.Row.{Row}

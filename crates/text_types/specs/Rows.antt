@@ -1,5 +1,5 @@
 -- Types and fields in a row, turn by turn; parts that may be left out; and the type that a first byte decides on.
-use Rattle.std.specs.Prelude.{◌≡◌, ℕ, ◌-◌}
+use Rattle.std.specs.Prelude.{◌≡◌, ℕ}
 use Rattle.rules.specs.Names.{Bytes}
 use Rattle.rules.specs.Writing.{writeTy}
 use Rattle.rules.specs.TextReading.{ty_of}
