@@ -16,8 +16,10 @@ use Rattle.rules.specs.TextReading.{Step, onward, counted, conOf, lineRead}
 use Rattle.rules.specs.TextReading as TextReading
 use Rattle.text_grammar.specs.Points.{Reads, Any, beginsAt}
 use Rattle.text_grammar.specs.declared.inner.Point.{Point}
-use Rattle.text_names.specs.Effects.{Lent, Kept, Effect, Writes, Entered}
+use Rattle.text_names.specs.Effects.{Lent, Kept, Effect, Writes}
 use Rattle.text_names.specs.declared.inner.Reached.{Reached}
+use Rattle.text_types.specs.declared.inner.Buffers.{Buffers}
+use Rattle.text_types.specs.Entering.{Entered}
 
 -- the byte b is "=", and a dimension begins at q; or not
 abbrev pub SaysScalar : Bytes → Point → ℕ → Bool → Type 0
@@ -44,11 +46,11 @@ abbrev pub stated : Rule ConAt
 stated = ifSign "H" Grammar.hasField typed
 
 -- a constraint that R reads was entered, and its records are written
-abbrev pub ConEntered : Bytes → Rule ConAt → Reached → List ℕ → List ℕ → List ℕ → Reached → List ℕ → List ℕ → List ℕ → Type 0
+abbrev pub ConEntered : Bytes → Rule ConAt → Reached → Buffers → Reached → Buffers → Type 0
 ConEntered line R = Entered line R conOf (Writes writeCon)
 
 -- what R reads of a line was entered: n constraints, and their records are written
-abbrev pub LineEntered : Bytes → Rule (Option ConAt) → ℕ → Reached → List ℕ → List ℕ → List ℕ → Reached → List ℕ → List ℕ → List ℕ → Type 0
+abbrev pub LineEntered : Bytes → Rule (Option ConAt) → ℕ → Reached → Buffers → Reached → Buffers → Type 0
 LineEntered line R n = Entered line R meantOf (LineTold n)
 
 -- what a line did, of n constraints

@@ -5,6 +5,7 @@ ghost use Rattle.laws.specs.NameTable.{Good};
 ghost use Rattle.text_grammar.specs.declared.inner.Point.TheVariants as point;
 ghost use Rattle.text_grammar.specs.Points.{PointIn, Reads, Any};
 ghost use Rattle.text_names.specs.Effects.{lent, Room, Ready, Done};
+ghost use Rattle.text_types.specs.Entering.{lentBy, ReadyIn, SameBuffers};
 ghost use Rattle.text_lines.specs.Statements.{end_of, SaysScalar, stated, meantOf, LineTold, LineDone, ConEntered, LineEntered};
 ghost use Rattle.text_lines.specs.Answers.{standIn, countIn, answer_of};
 
@@ -13,6 +14,7 @@ use rules::{NESTED, Refusal};
 use text_grammar::inner::{Point, byte_at, mark, next_is, next_sign, refuse, sign};
 use text_names::inner::naming::read_named;
 use text_names::inner::{At, Reached, Stand, Tally, count, place_of, put_head};
+use text_types::inner::Buffers;
 use text_types::inner::nested::enter_type;
 
 /// What a line that was read brought a sheet to, and how many constraints the line had: 0 or 1.
@@ -64,37 +66,32 @@ fn says_scalar(line: &[u8], q: Point, b: u8) -> bool
 }
 
 /// A type, and what the line says of it: that it equals another, is a dimension, or is scalar.
-fn enter_typed(
-    line: &[u8],
-    from: Reached,
-    pool: &mut [u8],
-    table: &mut [u32],
-    dst: &mut [u32],
-) -> Reached
-    requires { Ready line.now from.at pool.old table.old from.stand }
-    ensures { ConEntered line.now typed from pool.old table.old dst.old result pool.new table.new dst.new }
+fn enter_typed(line: &[u8], from: Reached, buffers: &mut Buffers) -> Reached
+    requires { ReadyIn line.now from buffers.old }
+    ensures done { ConEntered line.now typed from buffers.old result buffers.new }
+    ensures same { SameBuffers buffers.old buffers.new }
 {
     let q = next_sign(line, from.at);
     let stand = count(1, place_of(q), from.stand);
-    let l = enter_type(line, Reached { at: q, stand }, NESTED, pool, table, dst);
+    let l = enter_type(line, Reached { at: q, stand }, NESTED, buffers);
     let e = next_sign(line, l.at);
     let b = byte_at(line, e);
     if b == b'~' {
         let at = mark(line, e, b'~');
-        let t = enter_type(line, Reached { at, ..l }, NESTED, pool, table, dst);
-        put_head(View::Equal, from.stand, t.stand, dst);
+        let t = enter_type(line, Reached { at, ..l }, NESTED, buffers);
+        put_head(View::Equal, from.stand, t.stand, buffers.dst);
         return t;
     }
     if b == b':' {
         let m = mark(line, e, b':');
         let at = sign(line, m, b"DType");
-        put_head(View::IsDim, from.stand, l.stand, dst);
+        put_head(View::IsDim, from.stand, l.stand, buffers.dst);
         return Reached { at, ..l };
     }
     if says_scalar(line, q, b) {
         let m = mark(line, e, b'=');
         let at = sign(line, m, b"Scalar");
-        put_head(View::IsScalar, from.stand, l.stand, dst);
+        put_head(View::IsScalar, from.stand, l.stand, buffers.dst);
         return Reached { at, ..l };
     }
     let at = refuse(e);
@@ -102,79 +99,58 @@ fn enter_typed(
 }
 
 /// A field that a type has.
-fn enter_has_field(
-    line: &[u8],
-    from: Reached,
-    pool: &mut [u8],
-    table: &mut [u32],
-    dst: &mut [u32],
-) -> Reached
-    requires { Ready line.now from.at pool.old table.old from.stand }
-    ensures { ConEntered line.now hasField from pool.old table.old dst.old result pool.new table.new dst.new }
+fn enter_has_field(line: &[u8], from: Reached, buffers: &mut Buffers) -> Reached
+    requires { ReadyIn line.now from buffers.old }
+    ensures done { ConEntered line.now hasField from buffers.old result buffers.new }
+    ensures same { SameBuffers buffers.old buffers.new }
 {
     let q = next_sign(line, from.at);
     let stand = count(1, place_of(q), from.stand);
     let a = sign(line, q, b"HasField");
     let b = mark(line, a, b'(');
-    let l = enter_type(line, Reached { at: b, stand }, NESTED, pool, table, dst);
+    let l = enter_type(line, Reached { at: b, stand }, NESTED, buffers);
     let d = mark(line, l.at, b',');
     let e = mark(line, d, b'"');
-    let x = read_named(line, Reached { at: e, ..l }, pool, table);
+    let x = read_named(line, Reached { at: e, ..l }, buffers.pool, buffers.table);
     let g = quote(line, x.end.at);
     let f = mark(line, g, b',');
-    let t = enter_type(line, Reached { at: f, ..x.end }, NESTED, pool, table, dst);
+    let t = enter_type(line, Reached { at: f, ..x.end }, NESTED, buffers);
     let at = mark(line, t.at, b')');
-    put_head(View::HasField(x.number), from.stand, t.stand, dst);
+    put_head(View::HasField(x.number), from.stand, t.stand, buffers.dst);
     Reached { at, ..t }
 }
 
 /// What a line states, by its first byte.
-fn enter_stated(
-    line: &[u8],
-    from: Reached,
-    pool: &mut [u8],
-    table: &mut [u32],
-    dst: &mut [u32],
-) -> Reached
-    requires { Ready line.now from.at pool.old table.old from.stand }
-    ensures { ConEntered line.now stated from pool.old table.old dst.old result pool.new table.new dst.new }
+fn enter_stated(line: &[u8], from: Reached, buffers: &mut Buffers) -> Reached
+    requires { ReadyIn line.now from buffers.old }
+    ensures done { ConEntered line.now stated from buffers.old result buffers.new }
+    ensures same { SameBuffers buffers.old buffers.new }
 {
     if next_is(line, from.at, b'H') {
-        return enter_has_field(line, from, pool, table, dst);
+        return enter_has_field(line, from, buffers);
     }
-    enter_typed(line, from, pool, table, dst)
+    enter_typed(line, from, buffers)
 }
 
 /// A constraint up to the end of its line.
-fn enter_constraint(
-    line: &[u8],
-    from: Reached,
-    pool: &mut [u8],
-    table: &mut [u32],
-    dst: &mut [u32],
-) -> Reached
-    requires { Ready line.now from.at pool.old table.old from.stand }
-    ensures { LineEntered line.now constraint 1 from pool.old table.old dst.old result pool.new table.new dst.new }
+fn enter_constraint(line: &[u8], from: Reached, buffers: &mut Buffers) -> Reached
+    requires { ReadyIn line.now from buffers.old }
+    ensures done { LineEntered line.now constraint 1 from buffers.old result buffers.new }
+    ensures same { SameBuffers buffers.old buffers.new }
 {
-    let c = enter_stated(line, from, pool, table, dst);
+    let c = enter_stated(line, from, buffers);
     let e = next_sign(line, c.at);
     let at = end_at(line, e);
     Reached { at, ..c }
 }
 
 /// A line with a first sign: a comment or a constraint.
-fn enter_from(
-    line: &[u8],
-    i: usize,
-    stand: Stand,
-    pool: &mut [u8],
-    table: &mut [u32],
-    dst: &mut [u32],
-) -> Stated
+fn enter_from(line: &[u8], i: usize, stand: Stand, buffers: &mut Buffers) -> Stated
     requires within { i < length line.now }
-    requires ready { Ready line.now (point.At i) pool.old table.old stand }
-    ensures { Done line.now signsAt meantOf (LineTold result.count) (point.At i) (lent pool.old table.old dst.old stand)
-        result.end.at (lent pool.new table.new dst.new result.end.stand) }
+    requires ready { Ready line.now (point.At i) buffers.old.pool.now buffers.old.table.now stand }
+    ensures done { Done line.now signsAt meantOf (LineTold result.count) (point.At i) (lentBy buffers.old stand)
+        result.end.at (lentBy buffers.new result.end.stand) }
+    ensures same { SameBuffers buffers.old buffers.new }
 {
     let p = Point::At(i);
     if next_is(line, p, b'-') {
@@ -184,23 +160,18 @@ fn enter_from(
             count: 0,
         };
     }
-    let end = enter_constraint(line, Reached { at: p, stand }, pool, table, dst);
+    let end = enter_constraint(line, Reached { at: p, stand }, buffers);
     Stated { end, count: 1 }
 }
 
 /// A line from its first sign, if it has one.
-fn enter_signs(
-    line: &[u8],
-    from: Reached,
-    pool: &mut [u8],
-    table: &mut [u32],
-    dst: &mut [u32],
-) -> Stated
-    requires { Ready line.now from.at pool.old table.old from.stand }
-    ensures { LineEntered line.now signsAt result.count from pool.old table.old dst.old result.end pool.new table.new dst.new }
+fn enter_signs(line: &[u8], from: Reached, buffers: &mut Buffers) -> Stated
+    requires { ReadyIn line.now from buffers.old }
+    ensures done { LineEntered line.now signsAt result.count from buffers.old result.end buffers.new }
+    ensures same { SameBuffers buffers.old buffers.new }
 {
     match from.at {
-        Point::At(i) if i < line.len() => enter_from(line, i, from.stand, pool, table, dst),
+        Point::At(i) if i < line.len() => enter_from(line, i, from.stand, buffers),
         _ => Stated {
             end: from,
             count: 0,
@@ -237,6 +208,7 @@ pub fn read_line(
 {
     let at = next_sign(line, Point::At(0));
     let stand = Ok(tally);
-    let stated = enter_signs(line, Reached { at, stand }, pool, table, dst);
+    let mut buffers = Buffers { pool, table, dst };
+    let stated = enter_signs(line, Reached { at, stand }, &mut buffers);
     answer(stated.end, stated.count)
 }

@@ -22,10 +22,10 @@ use Rattle.text_grammar.specs.declared.inner.Point.{Point}
 use Rattle.text_grammar.specs.Points.{Reads, PointIn, from, standing, columnAt}
 use Rattle.text_grammar.proofs.Points.{NotAt}
 use Rattle.text_grammar.proofs.Signs.{bad≢read}
-use Rattle.text_names.specs.Stands.{Stand, not-both, place_of, countIf, countOf, Above, headPut}
+use Rattle.text_names.specs.Stands.{Stand, not-both, place_of, Few, countIf, countOf, Above, headPut}
 use Rattle.text_names.proofs.Stands.{same-going, same-refused}
 use Rattle.text_names.specs.Stands as stand
-use Rattle.text_names.specs.Effects.{Lent, lent, sofar, Room, Roomy, Halted, Ready, Kept, Did, Effect, NotBad, Done}
+use Rattle.text_names.specs.Effects.{Lent, lent, sofar, Room, Roomy, Halted, Ready, Kept, Did, Effect, NotBad, Done, kept_then}
 
 -- ══ Steps in turn ══
 
@@ -368,6 +368,14 @@ module _ {line : Bytes} {p : Point} {pool table : List ℕ} {s s₁ : Stand} (k 
 
   pub ready-count : Ready line p pool table s₁
   ready-count = record { within = h.within; good = h.good; room = (kept-count []).room; halted = rw e (halted-counted k at h.halted) }
+
+  -- a record that was counted has its place below those of its parts
+  pub head-above : {dst : List ℕ} {y : Lent} → Kept (lent pool table dst s₁) y → Above s y.stand
+  head-above {dst} o = kept_above (kept_then (kept-count dst) o)
+
+-- where a sheet goes on, there are not too many records
+pub ready-few : {line : Bytes} {p : Point} {pool table : List ℕ} {s : Stand} → Ready line p pool table s → Few s
+ready-few h = λ k n e. (h.room k n e).records
 
 pub ready_on : {A : Type 0} {P : A → Type 0} {line : Bytes} {p r : Point} {pool table : List ℕ} {s : Stand} {R : Rule A} → Inside R → Reads line p R P r
     → Ready line p pool table s

@@ -5,16 +5,15 @@ use Rattle.std.proofs.Common.{ap, ◌∙◌, append_assoc, arith}
 use Rattle.std.proofs.lemmas.List.Edits.{sets}
 use Rattle.rules.specs.Names.{Bytes, table_of, names_of}
 use Rattle.rules.specs.Refusals.{number_of}
-use Rattle.rules.specs.Grammar.{Rule, TyAt}
-use Rattle.rules.specs.Writing.{Rec, words, writeTy}
-use Rattle.rules.specs.TextReading.{Sofar, told, refusedAt, Step, ty_of}
+use Rattle.rules.specs.Grammar.{Rule}
+use Rattle.rules.specs.Writing.{Rec, words}
+use Rattle.rules.specs.TextReading.{Sofar, told, refusedAt, Step}
 use Rattle.rules.specs.declared.Refusal.{Refusal}
 use Rattle.laws.specs.NameTable.{Good}
 use Rattle.text_grammar.specs.declared.inner.Point.TheVariants as point
 use Rattle.text_grammar.specs.declared.inner.Point.{Point}
 use Rattle.text_grammar.specs.Points.{Reads, PointIn}
 use Rattle.text_names.specs.Stands.{Stand, not-both}
-use Rattle.text_names.specs.declared.inner.Reached.{Reached}
 use Rattle.text_names.specs.Stands as stand
 
 -- ══ What is lent, and how the sheet stands ══
@@ -118,13 +117,3 @@ pub record Done {A B : Type 0} (line : Bytes) (R : Rule A) (f : A → Step B) (T
   pub reads : Reads line p R (λ a. NotBad r → Effect (f a) T x y) r
   pub kept : Kept x y
   pub halted : Halted r y.stand
-
--- the same by where the code is, and by pool, table and buffer before and after
-abbrev pub Entered : {A B : Type 0} → Bytes → Rule A → (A → Step B) → (B → List Rec → Type 0) → Reached → List ℕ → List ℕ → List ℕ
-    → Reached → List ℕ → List ℕ → List ℕ → Type 0
-Entered line R f T from pool table dst to pool' table' dst' =
-    Done line R f T from.at (lent pool table dst from.stand) to.at (lent pool' table' dst' to.stand)
-
--- a type that R reads was entered, and its records are written
-abbrev pub TypeEntered : Bytes → Rule TyAt → Reached → List ℕ → List ℕ → List ℕ → Reached → List ℕ → List ℕ → List ℕ → Type 0
-TypeEntered line R = Entered line R ty_of (Writes writeTy)

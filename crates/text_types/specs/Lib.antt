@@ -1,3 +1,4 @@
+pub mod Entering
 pub mod Parts
 pub mod Members
 pub mod Rows

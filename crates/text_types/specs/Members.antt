@@ -12,7 +12,8 @@ use Rattle.rules.specs.declared.Refusal.{Refusal}
 use Rattle.records.specs.Good.{follows}
 use Rattle.text_grammar.specs.Types.{fieldRule}
 use Rattle.text_names.specs.Stands.{Stand}
-use Rattle.text_names.specs.Effects.{Entered}
+use Rattle.text_types.specs.declared.inner.Buffers.{Buffers}
+use Rattle.text_types.specs.Entering.{Entered}
 use Rattle.text_names.specs.declared.inner.Reached.{Reached}
 use Rattle.text_names.specs.Stands as stand
 use Rattle.text_types.specs.declared.inner.nested.FieldStart.{FieldStart}
@@ -63,9 +64,8 @@ pub record FieldTold (b : code.Option ℕ) (xu : ℕ × Ty ℕ) (rs : List Rec) 
   pub written : rs ≡ fieldRecs xu
 
 -- a field was entered: its name behind the one before, and its type; its own name comes before the next
-abbrev pub FieldEntered : Bytes → Rule TyAt → FieldStart → List ℕ → List ℕ → List ℕ → FieldStart → List ℕ → List ℕ → List ℕ → Type 0
-FieldEntered line ty from pool table dst next =
-    Entered line (fieldRule ty) (fieldStep (nameBefore from.before)) (FieldTold next.before) from.here pool table dst next.here
+abbrev pub FieldEntered : Bytes → Rule TyAt → FieldStart → Buffers → FieldStart → Buffers → Type 0
+FieldEntered line ty from x next = Entered line (fieldRule ty) (fieldStep (nameBefore from.before)) (FieldTold next.before) from.here x next.here
 
 -- ══ Fields in a row ══
 
@@ -75,5 +75,5 @@ pub record FieldsTold (n m : ℕ) (gs : Fields ℕ) (rs : List Rec) : Type 0 whe
   pub counted : m ≡ min (n + countFields gs) 4096
 
 -- fields that R reads were entered, as many as the row says, and their records are written
-abbrev pub FieldsEntered : Bytes → Rule FieldsAt → Reached → List ℕ → List ℕ → List ℕ → Row → List ℕ → List ℕ → List ℕ → Type 0
-FieldsEntered line R from pool table dst row = Entered line R (λ fs. fields_of fs none) (FieldsTold 0 row.count) from pool table dst row.end
+abbrev pub FieldsEntered : Bytes → Rule FieldsAt → Reached → Buffers → Row → Buffers → Type 0
+FieldsEntered line R from x row = Entered line R (λ fs. fields_of fs none) (FieldsTold 0 row.count) from x row.end

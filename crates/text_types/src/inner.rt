@@ -6,6 +6,7 @@ ghost use Rattle.std.specs.Prelude.{◌≡◌, List, ℕ, ◌+◌, ◌≤◌, mi
 ghost use Rattle.rules.specs.TextReading.{ty_of};
 ghost use Rattle.rules.specs.Writing.{writeTy};
 ghost use Rattle.rules.specs.declared.Refusal.TheVariants.{Malformed};
+ghost use Rattle.laws.specs.NameTable.{Good};
 ghost use Rattle.text_grammar.specs.Choice.{among, heads, deepRuled};
 ghost use Rattle.text_names.specs.Effects.{lent, Ready, Writes, Done};
 ghost use Rattle.text_types.specs.Members.{Risen, keptIf};
@@ -15,6 +16,14 @@ use records::inner::is_less;
 use rules::Refusal;
 use text_grammar::inner::{Point, byte_at, refuse};
 use text_names::inner::{At, Reached, Stand, place_of};
+
+/// What a sheet is entered into: the name table, and the buffer of its records.
+#[derive(Drop)]
+pub struct Buffers<'a> {
+    pub pool: &'a mut [u8],
+    pub table: &'a mut [u32],
+    pub dst: &'a mut [u32],
+}
 
 /// More than a sheet holds records: a count stays there.
 const MANY: u32 = 4096;
@@ -27,9 +36,14 @@ fn one_more(n: u32) -> u32
 }
 
 /// Does a field's name, if it is held, come after the one before?
-fn rises(names: NameTable, before: Option<u32>, x: u32) -> bool
-    ensures { Risen names.entry.pool.now names.entry.table.now before x result }
+fn rises(buffers: &Buffers, before: Option<u32>, x: u32) -> bool
+    requires { Good buffers.now.pool.now buffers.now.table.now }
+    ensures { Risen buffers.now.pool.now buffers.now.table.now before x result }
 {
+    let names = NameTable {
+        pool: buffers.pool,
+        table: buffers.table,
+    };
     match before {
         None => true,
         Some(y) => is_less(names.order(y, x)),

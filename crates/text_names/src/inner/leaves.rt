@@ -1,9 +1,11 @@
 //! Types without a type inside: their record is counted at their first byte.
 ghost use Rattle.std.specs.Prelude.{◌≡◌, List, ℕ};
+ghost use Rattle.rules.specs.TextReading.{ty_of};
+ghost use Rattle.rules.specs.Writing.{writeTy};
 ghost use Rattle.text_grammar.specs.Points.{PointIn, Reads, Any};
 ghost use Rattle.text_grammar.specs.Signs.{spelled};
 ghost use Rattle.text_names.specs.Stands.{Few};
-ghost use Rattle.text_names.specs.Effects.{Ready, TypeEntered};
+ghost use Rattle.text_names.specs.Effects.{lent, Ready, Done, Writes};
 ghost use Rattle.text_names.specs.Leaves.{mark_of, openView, openRule, word_of, basicRule};
 
 use super::naming::read_named;
@@ -37,7 +39,8 @@ pub fn enter_open(
     dst: &mut [u32],
 ) -> Reached
     requires { Ready line.now from.at pool.old table.old from.stand }
-    ensures { TypeEntered line.now (openRule par) from pool.old table.old dst.old result pool.new table.new dst.new }
+    ensures { Done line.now (openRule par) ty_of (Writes writeTy) from.at (lent pool.old table.old dst.old from.stand)
+        result.at (lent pool.new table.new dst.new result.stand) }
 {
     let c = next_sign(line, from.at);
     let now = count(1, place_of(c), from.stand);
@@ -64,7 +67,8 @@ pub fn enter_basic(line: &[u8], from: Reached, b: Basic, dst: &mut [u32]) -> Rea
     requires within { PointIn line.now from.at }
     requires few { Few from.stand }
     ensures { (pool table : List ℕ) → Ready line.now from.at pool table from.stand
-        → TypeEntered line.now (basicRule b) from pool table dst.old result pool table dst.new }
+        → Done line.now (basicRule b) ty_of (Writes writeTy) from.at (lent pool table dst.old from.stand)
+        result.at (lent pool table dst.new result.stand) }
 {
     let c = next_sign(line, from.at);
     let stand = count(1, place_of(c), from.stand);

@@ -6,7 +6,7 @@ ghost use Rattle.rules.specs.TextReading.{newIn, enterName, named};
 ghost use Rattle.laws.specs.NameTable.{Good};
 ghost use Rattle.names.specs.Told.{entered};
 ghost use Rattle.text_grammar.specs.declared.inner.Point.TheVariants as point;
-ghost use Rattle.text_names.specs.Effects.{lent, Room, Ready, Done, Entered};
+ghost use Rattle.text_names.specs.Effects.{lent, Room, Ready, Done};
 ghost use Rattle.text_names.specs.Naming.{standAfter, numberTold, Front, NumberTold};
 
 use super::{At, Reached, Stand, Tally};
@@ -105,8 +105,8 @@ fn enter_at(line: &[u8], at: usize, tally: Tally, pool: &mut [u8], table: &mut [
 /// The name that begins right here, entered: 2 and 3 at its first byte.
 pub fn read_named(line: &[u8], from: Reached, pool: &mut [u8], table: &mut [u32]) -> Named
     requires { Ready line.now from.at pool.old table.old from.stand }
-    ensures { (dst : List ℕ) → Entered line.now name named (NumberTold table.new result.number) from pool.old table.old dst
-        result.end pool.new table.new dst }
+    ensures { (dst : List ℕ) → Done line.now name named (NumberTold table.new result.number) from.at (lent pool.old table.old dst from.stand)
+        result.end.at (lent pool.new table.new dst result.end.stand) }
 {
     let Ok(tally) = from.stand else {
         let at = read_name(line, from.at);

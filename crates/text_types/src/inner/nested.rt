@@ -1,13 +1,12 @@
 //! Types, nested at most d deep: what each function reads it enters at once. Each goes on from where the one before ended.
 ghost use Rattle.rules.specs.Grammar.{type, tys, function, listed, fields, structure};
 ghost use Rattle.text_grammar.specs.Types.{paramsThere, typesThere, fieldsThere};
-ghost use Rattle.text_names.specs.Effects.{Ready, TypeEntered};
-ghost use Rattle.text_types.specs.Parts.{TypesEntered};
+ghost use Rattle.text_types.specs.Entering.{ReadyIn, SameBuffers};
+ghost use Rattle.text_types.specs.Parts.{TypeEntered, TypesEntered};
 ghost use Rattle.text_types.specs.Members.{FieldsEntered, FieldEntered};
 
 use super::leaves::enter_leaf;
-use super::{one_more, pass_if, rises, too_deep};
-use names::tables::NameTable;
+use super::{Buffers, one_more, pass_if, rises, too_deep};
 use records::View;
 use text_grammar::inner::{byte_at, mark, next_is, next_sign, sign};
 use text_names::inner::naming::read_named;
@@ -29,16 +28,10 @@ pub struct FieldStart {
 
 /// The type that begins here, and its records.
 #[cycle(types)]
-pub fn enter_type(
-    line: &[u8],
-    from: Reached,
-    d: usize,
-    pool: &mut [u8],
-    table: &mut [u32],
-    dst: &mut [u32],
-) -> Reached
-    requires { Ready line.now from.at pool.old table.old from.stand }
-    ensures { TypeEntered line.now (type d) from pool.old table.old dst.old result pool.new table.new dst.new }
+pub fn enter_type(line: &[u8], from: Reached, d: usize, buffers: &mut Buffers) -> Reached
+    requires { ReadyIn line.now from buffers.old }
+    ensures done { TypeEntered line.now (type d) from buffers.old result buffers.new }
+    ensures same { SameBuffers buffers.old buffers.new }
 {
     let q = next_sign(line, from.at);
     if d == 0 {
@@ -46,75 +39,57 @@ pub fn enter_type(
     }
     let here = Reached { at: q, ..from };
     match byte_at(line, q) {
-        b'F' => enter_function(line, here, d - 1, pool, table, dst),
-        b'L' => enter_list(line, here, d - 1, pool, table, dst),
-        b'@' => enter_structure(line, here, d - 1, pool, table, dst),
-        _ => enter_leaf(line, here, pool, table, dst),
+        b'F' => enter_function(line, here, d - 1, buffers),
+        b'L' => enter_list(line, here, d - 1, buffers),
+        b'@' => enter_structure(line, here, d - 1, buffers),
+        _ => enter_leaf(line, here, buffers.pool, buffers.table, buffers.dst),
     }
 }
 
 /// A list of types nested at most d deep.
 #[cycle(types)]
-fn enter_list(
-    line: &[u8],
-    from: Reached,
-    d: usize,
-    pool: &mut [u8],
-    table: &mut [u32],
-    dst: &mut [u32],
-) -> Reached
-    requires { Ready line.now from.at pool.old table.old from.stand }
-    ensures { TypeEntered line.now (listed (type d)) from pool.old table.old dst.old result pool.new table.new dst.new }
+fn enter_list(line: &[u8], from: Reached, d: usize, buffers: &mut Buffers) -> Reached
+    requires { ReadyIn line.now from buffers.old }
+    ensures done { TypeEntered line.now (listed (type d)) from buffers.old result buffers.new }
+    ensures same { SameBuffers buffers.old buffers.new }
 {
     let q = next_sign(line, from.at);
     let now = count(1, place_of(q), from.stand);
     let a = sign(line, q, b"List");
     let b = mark(line, a, b'<');
-    let t = enter_type(line, Reached { at: b, stand: now }, d, pool, table, dst);
+    let t = enter_type(line, Reached { at: b, stand: now }, d, buffers);
     let at = mark(line, t.at, b'>');
-    put_head(View::List, from.stand, t.stand, dst);
+    put_head(View::List, from.stand, t.stand, buffers.dst);
     Reached { at, ..t }
 }
 
 /// A function from and to types nested at most d deep.
 #[cycle(types)]
-fn enter_function(
-    line: &[u8],
-    from: Reached,
-    d: usize,
-    pool: &mut [u8],
-    table: &mut [u32],
-    dst: &mut [u32],
-) -> Reached
-    requires { Ready line.now from.at pool.old table.old from.stand }
-    ensures { TypeEntered line.now (function (type d)) from pool.old table.old dst.old result pool.new table.new dst.new }
+fn enter_function(line: &[u8], from: Reached, d: usize, buffers: &mut Buffers) -> Reached
+    requires { ReadyIn line.now from buffers.old }
+    ensures done { TypeEntered line.now (function (type d)) from buffers.old result buffers.new }
+    ensures same { SameBuffers buffers.old buffers.new }
 {
     let q = next_sign(line, from.at);
     let now = count(1, place_of(q), from.stand);
     let a = sign(line, q, b"Fn");
     let b = mark(line, a, b'[');
     let c = mark(line, b, b'(');
-    let ps = enter_params(line, Reached { at: c, stand: now }, d, pool, table, dst);
+    let ps = enter_params(line, Reached { at: c, stand: now }, d, buffers);
     let f = mark(line, ps.end.at, b')');
     let g = sign(line, f, b"->");
-    let t = enter_type(line, Reached { at: g, ..ps.end }, d, pool, table, dst);
+    let t = enter_type(line, Reached { at: g, ..ps.end }, d, buffers);
     let at = mark(line, t.at, b']');
-    put_head(View::Function(ps.count), from.stand, t.stand, dst);
+    put_head(View::Function(ps.count), from.stand, t.stand, buffers.dst);
     Reached { at, ..t }
 }
 
 /// The parameters of a function, if it has any.
 #[cycle(types)]
-fn enter_params(
-    line: &[u8],
-    from: Reached,
-    d: usize,
-    pool: &mut [u8],
-    table: &mut [u32],
-    dst: &mut [u32],
-) -> Row
-    requires { Ready line.now from.at pool.old table.old from.stand }
-    ensures { TypesEntered line.now (paramsThere (type d)) from pool.old table.old dst.old result pool.new table.new dst.new }
+fn enter_params(line: &[u8], from: Reached, d: usize, buffers: &mut Buffers) -> Row
+    requires { ReadyIn line.now from buffers.old }
+    ensures done { TypesEntered line.now (paramsThere (type d)) from buffers.old result buffers.new }
+    ensures same { SameBuffers buffers.old buffers.new }
 {
     if next_is(line, from.at, b')') {
         return Row {
@@ -122,28 +97,22 @@ fn enter_params(
             count: 0,
         };
     }
-    enter_types(line, from, d, pool, table, dst)
+    enter_types(line, from, d, buffers)
 }
 
 /// One type or more, each further one behind a comma.
 #[cycle(types)]
-fn enter_types(
-    line: &[u8],
-    from: Reached,
-    d: usize,
-    pool: &mut [u8],
-    table: &mut [u32],
-    dst: &mut [u32],
-) -> Row
-    requires { Ready line.now from.at pool.old table.old from.stand }
-    ensures { TypesEntered line.now (tys (type d)) from pool.old table.old dst.old result pool.new table.new dst.new }
+fn enter_types(line: &[u8], from: Reached, d: usize, buffers: &mut Buffers) -> Row
+    requires { ReadyIn line.now from buffers.old }
+    ensures done { TypesEntered line.now (tys (type d)) from buffers.old result buffers.new }
+    ensures same { SameBuffers buffers.old buffers.new }
 {
-    let first = enter_type(line, from, d, pool, table, dst);
+    let first = enter_type(line, from, d, buffers);
     let mut end = first;
     let mut n = 1;
     while next_is(line, end.at, b',') {
         let a = mark(line, end.at, b',');
-        end = enter_type(line, Reached { at: a, ..end }, d, pool, table, dst);
+        end = enter_type(line, Reached { at: a, ..end }, d, buffers);
         n = one_more(n);
     }
     Row { end, count: n }
@@ -151,40 +120,33 @@ fn enter_types(
 
 /// A structure with arguments and fields nested at most d deep.
 #[cycle(types)]
-fn enter_structure(
-    line: &[u8],
-    from: Reached,
-    d: usize,
-    pool: &mut [u8],
-    table: &mut [u32],
-    dst: &mut [u32],
-) -> Reached
-    requires { Ready line.now from.at pool.old table.old from.stand }
-    ensures { TypeEntered line.now (structure (type d)) from pool.old table.old dst.old result pool.new table.new dst.new }
+fn enter_structure(line: &[u8], from: Reached, d: usize, buffers: &mut Buffers) -> Reached
+    requires { ReadyIn line.now from buffers.old }
+    ensures done { TypeEntered line.now (structure (type d)) from buffers.old result buffers.new }
+    ensures same { SameBuffers buffers.old buffers.new }
 {
     let q = next_sign(line, from.at);
     let now = count(1, place_of(q), from.stand);
     let a = mark(line, q, b'@');
-    let x = read_named(line, Reached { at: a, stand: now }, pool, table);
-    let ts = enter_arguments(line, x.end, d, pool, table, dst);
-    let fs = enter_members(line, ts.end, d, pool, table, dst);
+    let x = read_named(
+        line,
+        Reached { at: a, stand: now },
+        buffers.pool,
+        buffers.table,
+    );
+    let ts = enter_arguments(line, x.end, d, buffers);
+    let fs = enter_members(line, ts.end, d, buffers);
     let view = View::Struct(x.number, ts.count, fs.count);
-    put_head(view, from.stand, fs.end.stand, dst);
+    put_head(view, from.stand, fs.end.stand, buffers.dst);
     fs.end
 }
 
 /// The arguments of a structure, if it has any.
 #[cycle(types)]
-fn enter_arguments(
-    line: &[u8],
-    from: Reached,
-    d: usize,
-    pool: &mut [u8],
-    table: &mut [u32],
-    dst: &mut [u32],
-) -> Row
-    requires { Ready line.now from.at pool.old table.old from.stand }
-    ensures { TypesEntered line.now (typesThere (type d)) from pool.old table.old dst.old result pool.new table.new dst.new }
+fn enter_arguments(line: &[u8], from: Reached, d: usize, buffers: &mut Buffers) -> Row
+    requires { ReadyIn line.now from buffers.old }
+    ensures done { TypesEntered line.now (typesThere (type d)) from buffers.old result buffers.new }
+    ensures same { SameBuffers buffers.old buffers.new }
 {
     if !next_is(line, from.at, b'<') {
         return Row {
@@ -193,7 +155,7 @@ fn enter_arguments(
         };
     }
     let a = mark(line, from.at, b'<');
-    let ts = enter_types(line, Reached { at: a, ..from }, d, pool, table, dst);
+    let ts = enter_types(line, Reached { at: a, ..from }, d, buffers);
     let at = mark(line, ts.end.at, b'>');
     let end = Reached { at, ..ts.end };
     Row { end, ..ts }
@@ -201,16 +163,10 @@ fn enter_arguments(
 
 /// The fields of a structure, if it has any.
 #[cycle(types)]
-fn enter_members(
-    line: &[u8],
-    from: Reached,
-    d: usize,
-    pool: &mut [u8],
-    table: &mut [u32],
-    dst: &mut [u32],
-) -> Row
-    requires { Ready line.now from.at pool.old table.old from.stand }
-    ensures { FieldsEntered line.now (fieldsThere (type d)) from pool.old table.old dst.old result pool.new table.new dst.new }
+fn enter_members(line: &[u8], from: Reached, d: usize, buffers: &mut Buffers) -> Row
+    requires { ReadyIn line.now from buffers.old }
+    ensures done { FieldsEntered line.now (fieldsThere (type d)) from buffers.old result buffers.new }
+    ensures same { SameBuffers buffers.old buffers.new }
 {
     if !next_is(line, from.at, b'{') {
         return Row {
@@ -219,7 +175,7 @@ fn enter_members(
         };
     }
     let a = mark(line, from.at, b'{');
-    let fs = enter_fields(line, Reached { at: a, ..from }, d, pool, table, dst);
+    let fs = enter_fields(line, Reached { at: a, ..from }, d, buffers);
     let at = mark(line, fs.end.at, b'}');
     let end = Reached { at, ..fs.end };
     Row { end, ..fs }
@@ -227,29 +183,23 @@ fn enter_members(
 
 /// One field or more, each further one behind a comma.
 #[cycle(types)]
-fn enter_fields(
-    line: &[u8],
-    from: Reached,
-    d: usize,
-    pool: &mut [u8],
-    table: &mut [u32],
-    dst: &mut [u32],
-) -> Row
-    requires { Ready line.now from.at pool.old table.old from.stand }
-    ensures { FieldsEntered line.now (fields (type d)) from pool.old table.old dst.old result pool.new table.new dst.new }
+fn enter_fields(line: &[u8], from: Reached, d: usize, buffers: &mut Buffers) -> Row
+    requires { ReadyIn line.now from buffers.old }
+    ensures done { FieldsEntered line.now (fields (type d)) from buffers.old result buffers.new }
+    ensures same { SameBuffers buffers.old buffers.new }
 {
     let start = FieldStart {
         here: from,
         before: None,
     };
-    let first = enter_field(line, start, d, pool, table, dst);
+    let first = enter_field(line, start, d, buffers);
     let mut next = first;
     let mut n = 1;
     while next_is(line, next.here.at, b',') {
         let a = mark(line, next.here.at, b',');
         let here = Reached { at: a, ..next.here };
         let start = FieldStart { here, ..next };
-        next = enter_field(line, start, d, pool, table, dst);
+        next = enter_field(line, start, d, buffers);
         n = one_more(n);
     }
     Row {
@@ -260,26 +210,21 @@ fn enter_fields(
 
 /// A field, up to where the next may begin: its name must rise, its record is counted at the name.
 #[cycle(types)]
-fn enter_field(
-    line: &[u8],
-    from: FieldStart,
-    d: usize,
-    pool: &mut [u8],
-    table: &mut [u32],
-    dst: &mut [u32],
-) -> FieldStart
-    requires { Ready line.now from.here.at pool.old table.old from.here.stand }
-    ensures { FieldEntered line.now (type d) from pool.old table.old dst.old result pool.new table.new dst.new }
+fn enter_field(line: &[u8], from: FieldStart, d: usize, buffers: &mut Buffers) -> FieldStart
+    requires { ReadyIn line.now from.here buffers.old }
+    ensures done { FieldEntered line.now (type d) from buffers.old result buffers.new }
+    ensures same { SameBuffers buffers.old buffers.new }
 {
     let q = next_sign(line, from.here.at);
-    let x = read_named(line, Reached { at: q, ..from.here }, pool, table);
+    let here = Reached { at: q, ..from.here };
+    let x = read_named(line, here, buffers.pool, buffers.table);
     let at = place_of(q);
-    let names = NameTable { pool, table };
-    let tested = pass_if(rises(names, from.before, x.number), at, x.end.stand);
+    let risen = rises(buffers, from.before, x.number);
+    let tested = pass_if(risen, at, x.end.stand);
     let now = count(1, at, tested);
     let c = mark(line, x.end.at, b':');
-    let end = enter_type(line, Reached { at: c, stand: now }, d, pool, table, dst);
-    put_head(View::Field(x.number), tested, end.stand, dst);
+    let end = enter_type(line, Reached { at: c, stand: now }, d, buffers);
+    put_head(View::Field(x.number), tested, end.stand, buffers.dst);
     FieldStart {
         here: end,
         before: Some(x.number),

@@ -1,9 +1,9 @@
 -- `inner::read_line` meets its contract.
 use mathlib.Core.Path.{refl}
-use native.Mathlib.Omega.{arith}
+use Rattle.std.proofs.Common.{arith, rules}
 use Rattle.text_names.proofs.Effects.{ready_on, roomy, not-past}
 use Rattle.text_names.proofs.Inside.{inside-column}
-use Rattle.text_lines.proofs.Answers.{answered}
+use Rattle.text_lines.proofs.Answers.{answered-by}
 use Rattle.text_lines.proofs.inner.read_line.Goals as goal
 
 pub enter_signs-stated-requires : goal.enter_signs-stated-requires
@@ -13,4 +13,5 @@ enter_signs-stated-requires c =
 
 pub returns : goal.returns
 returns c =
-    rw c.answer.ensures (answered c.next_sign-at.ensures refl _ _ _ c.enter_signs-stated.ensures)
+    rw c.answer.ensures
+    (answered-by c.next_sign-at.ensures refl _ _ _ c.enter_signs-stated.ensures.done (search rules) (search rules) (search rules))

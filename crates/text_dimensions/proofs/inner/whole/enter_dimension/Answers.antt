@@ -3,14 +3,14 @@ use mathlib.Core.List.{[]}
 use native.Mathlib.Omega.{arith}
 use Rattle.products.proofs.Held.{well-sound}
 use Rattle.products.proofs.Places.{length-product}
-use Rattle.text_names.proofs.Effects.{ready-count, ready_on}
+use Rattle.text_names.proofs.Effects.{ready-few, ready-count, ready_on}
 use Rattle.text_names.proofs.Inside.{inside-column, inside-spelled}
 use Rattle.text_dimensions.proofs.Whole.{dimension-done}
 use Rattle.text_dimensions.proofs.inner.whole.enter_dimension.Goals as goal
 
 pub count-now-requires : goal.count-now-requires
 count-now-requires c =
-    record { small = omega arith; few = (λ k n e. (c.requires.room k n e).records) }
+    record { small = omega arith; few = ready-few c.requires }
 
 pub enter_factors-f-requires : goal.enter_factors-f-requires
 enter_factors-f-requires c =
@@ -26,7 +26,7 @@ count-stand-requires c =
 
 pub put_product-requires : goal.put_product-requires
 put_product-requires c =
-    record { few = (λ k n e. (c.requires.room k n e).records); sound = well-sound c.enter_factors-f.ensures.0 }
+    record { few = ready-few c.requires; sound = well-sound c.enter_factors-f.ensures.0 }
 
 pub returns : goal.returns
 returns c =

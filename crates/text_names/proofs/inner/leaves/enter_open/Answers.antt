@@ -1,6 +1,5 @@
 -- `inner::leaves::enter_open` meets its contract.
-use Rattle.text_names.specs.Effects.{kept_then}
-use Rattle.text_names.proofs.Effects.{kept_above, kept-count, ready-count, ready_on}
+use Rattle.text_names.proofs.Effects.{head-above, ready-few, ready-count, ready_on}
 use Rattle.text_names.proofs.Inside.{inside-column, inside-spelled}
 use Rattle.text_names.proofs.Leaves.{open_done}
 use mathlib.Core.List.{[]}
@@ -9,7 +8,7 @@ use Rattle.text_names.proofs.inner.leaves.enter_open.Goals as goal
 
 pub count-now-requires : goal.count-now-requires
 count-now-requires c =
-    record { small = omega arith; few = (λ k n e. (c.requires.room k n e).records) }
+    record { small = omega arith; few = ready-few c.requires }
 
 pub read_named-x-requires : goal.read_named-x-requires
 read_named-x-requires c =
@@ -17,7 +16,7 @@ read_named-x-requires c =
 
 pub put_head-requires : goal.put_head-requires
 put_head-requires c =
-    kept_above (kept_then (kept-count 1 _ c.requires c.count-now.ensures []) (c.read_named-x.ensures []).kept)
+    head-above 1 _ c.requires c.count-now.ensures (c.read_named-x.ensures []).kept
 
 pub returns : goal.returns
 returns c =

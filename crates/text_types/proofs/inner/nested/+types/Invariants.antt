@@ -1,6 +1,6 @@
 use Rattle.rules.specs.Grammar.{type}
 use Rattle.text_grammar.specs.Points.{left_at}
-use Rattle.text_names.specs.Effects.{lent}
+use Rattle.text_types.specs.Entering.{lentBy, SameBuffers}
 use Rattle.text_types.proofs.Rows.{TysLoop, FieldsLoop}
 use Prim.Native.Nat.{◌+◌, ◌*◌}
 use Rattle.text_types.proofs.inner.nested.+types.Given as goal
@@ -38,16 +38,17 @@ decreases-enter_types l = l.d * 8 + 5
 abbrev pub invariant-enter_fields-loop-a : goal.invariant-enter_fields-loop-a
 invariant-enter_fields-loop-a l =
     let start = l.initial.next in
-    FieldsLoop (type l.d) l.line start.here.at (lent l.initial.pool l.initial.table l.initial.dst start.here.stand) l.initial.n start.before l.next.here.at
-    (lent l.pool l.table l.dst l.next.here.stand) l.n l.next.before
+    (FieldsLoop (type l.d) l.line start.here.at (lentBy l.initial.buffers start.here.stand) l.initial.n start.before l.next.here.at
+    (lentBy l.buffers l.next.here.stand) l.n l.next.before) × SameBuffers l.initial.buffers l.buffers
 
 abbrev pub decreases-enter_fields-loop-a : goal.decreases-enter_fields-loop-a
 decreases-enter_fields-loop-a l = left_at l.line l.next.here.at
 
 abbrev pub invariant-enter_types-loop-a : goal.invariant-enter_types-loop-a
 invariant-enter_types-loop-a l =
-    TysLoop (type l.d) l.line l.initial.end.at (lent l.initial.pool l.initial.table l.initial.dst l.initial.end.stand) l.initial.n l.end.at
-    (lent l.pool l.table l.dst l.end.stand) l.n
+    let start = l.initial.end in
+    (TysLoop (type l.d) l.line start.at (lentBy l.initial.buffers start.stand) l.initial.n l.end.at (lentBy l.buffers l.end.stand) l.n)
+    × SameBuffers l.initial.buffers l.buffers
 
 abbrev pub decreases-enter_types-loop-a : goal.decreases-enter_types-loop-a
 decreases-enter_types-loop-a l = left_at l.line l.end.at
