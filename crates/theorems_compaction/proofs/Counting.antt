@@ -1,10 +1,10 @@
 -- Two lists of different names that have the same names are as long as one another.
 use Rattle.std.proofs.Math.Path.{◌≡◌, refl, sym, ap, ap₂}
-use Rattle.std.proofs.Common.{◌∙◌, arith}
+use Rattle.std.proofs.Common.{◌∙◌}
 use Rattle.std.specs.Prelude.{Bool, ◌&&◌, ◌||◌, length}
 use Rattle.std.proofs.Math.Bool.{true, false, not, and-false}
 use mathlib.Core.List.{List, [], ◌∷◌}
-use Prim.Native.Nat.{ℕ, suc}
+use Prim.Native.Nat.{suc}
 use Rattle.rules.specs.Base.{any, keep}
 use Rattle.rules.specs.Names.{Bytes, sameBytes, distinct}
 use Rattle.std.proofs.lemmas.Bool.{not-true}
