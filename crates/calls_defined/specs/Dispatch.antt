@@ -1,6 +1,6 @@
 -- What each call comes to (docs/SERVE.md): the call's own definition of the rules on the words that were given, what is told of it in words,
 -- and what all that is lent holds then.
-use Rattle.std.specs.Prelude.{ℕ, zero, suc, List, [], ◌∷◌, ◌++◌, map, length, take, drop, ◌==◌, slice_index}
+use Rattle.std.specs.Prelude.{ℕ, zero, suc, List, [], ◌∷◌, ◌++◌, length, take, drop, ◌==◌, slice_index}
 use Rattle.std.proofs.lemmas.List.Edits.{sets}
 use Rattle.rules.specs.Base.{Got, got, refused, collect}
 use Rattle.rules.specs.Exponents.{Exp, frac}

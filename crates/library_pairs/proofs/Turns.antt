@@ -1,14 +1,14 @@
 -- How looking up and testing for a repeat go along the pairs: what the turns of the loops need.
 use Rattle.std.specs.Prelude.{◌≡◌, Bool, true, false, not, ℕ, ◌-◌, ◌/◌, ◌≤◌, ◌<◌, eqb, get_or, drop}
 use Rattle.std.proofs.Math.Path.{refl, sym, ap}
-use Rattle.std.proofs.Common.{◌∙◌, arith}
+use Rattle.std.proofs.Common.{arith}
 use borrow.Author.Tests.{eq-eqb, ne_eqb}
 use mathlib.Core.List.{List, [], ◌∷◌}
 use Rattle.std.proofs.Math.Option.{none, some}
 use Rattle.std.proofs.Math.ListN.{length, take}
 use Rattle.std.proofs.Math.Seq.{take_all}
 use Rattle.rules.specs.Base.{any}
-use Rattle.rules.specs.Calls.{Entry, differ}
+use Rattle.rules.specs.Calls.{differ}
 use Rattle.judge_entries.specs.Entries.{place_of, variablesOf}
 use Rattle.library_pairs.specs.Pairs.{entriesIn}
 

@@ -1,5 +1,5 @@
 -- The type of a variable once the set was solved and judged, and what each answer of the code makes of it.
-use Rattle.std.specs.Prelude.{◌≡◌, List, ℕ, ◌-◌, ◌≤◌, Result}
+use Rattle.std.specs.Prelude.{◌≡◌, List, ℕ, ◌≤◌, Result}
 use Rattle.std.proofs.Math.Option.{get_or}
 use Rattle.std.proofs.lemmas.List.Edits.{sets}
 use Rattle.rules.specs.Base.{Got, got, ◌>>=◌, ◌>>◌, bounded}

@@ -1,5 +1,5 @@
 -- The whole call past the check of 10: from the steps in words to the type of the last one.
-use Rattle.std.specs.Prelude.{Result, Ok, Err, ◌≡◌, Bool, List, ℕ, ◌-◌, ◌≤◌, length}
+use Rattle.std.specs.Prelude.{Result, Ok, Err, ◌≡◌, Bool, List, ℕ, ◌≤◌, length}
 use Rattle.std.proofs.Math.Bool.{true}
 use Rattle.rules.specs.Base.{Got, got, refused, ◌>>=◌, ◌>>◌, all}
 use Rattle.rules.specs.Trees.{Names}

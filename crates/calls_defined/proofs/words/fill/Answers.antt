@@ -1,5 +1,5 @@
 -- `words::fill` meets its contract: the loop says what is left to store.
-use Rattle.std.proofs.Common.{refl, ◌∙◌, arith}
+use Rattle.std.proofs.Common.{refl, arith}
 use Rattle.calls_defined.proofs.Fills.{fill_step, fill_end}
 use Rattle.calls_defined.proofs.words.fill.Goals as goal
 

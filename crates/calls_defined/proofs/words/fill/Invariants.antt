@@ -1,4 +1,4 @@
-use Rattle.std.proofs.Common.{◌≡◌, ◌-◌, ◌≤◌, length, drop}
+use Rattle.std.proofs.Common.{◌≡◌, drop}
 use lib.Seq.{sets}
 use Rattle.calls_defined.proofs.words.fill.Given as goal
 

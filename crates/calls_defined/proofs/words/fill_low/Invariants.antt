@@ -1,4 +1,4 @@
-use Rattle.std.proofs.Common.{◌≡◌, ◌-◌, ◌≤◌, map, length, drop}
+use Rattle.std.proofs.Common.{◌≡◌, map, drop}
 use lib.Seq.{sets}
 use Rattle.calls_defined.specs.Fills.{low_byte}
 use Rattle.calls_defined.proofs.words.fill_low.Given as goal
