@@ -1,12 +1,37 @@
 #!/usr/bin/env python3
-"""Time and stack of the compiled calls at their limits: extremes.py [SERVE]. A call's stack is what `serve` needs for it beyond what it needs for comparing
-two names with a result buffer of that kind (the usual or the large one); its time is that of a request, with reading, clearing the buffers and answering."""
+"""Time and stack of the compiled calls at their limits: extremes.py [SERVE] [WORD]. A call's stack is what `serve` needs for it beyond what it needs for
+comparing two names with a result buffer of that kind (the usual or the large one); its time is that of a request, with reading, clearing the buffers and
+answering. With WORD only the rows whose text has it, as `extremes.py SERVE nested`. What the frame of `called` holds for every call, as the arrays of
+`confirm` and `check_line`, is in neither figure: bindings/rust/examples/extremes.rs measures the exported functions."""
 import os, resource, subprocess, sys
 HERE = os.path.dirname(os.path.abspath(__file__))
 sys.path.insert(0, HERE)
 import requests
 from requests import Request, of
 from edges import dims, nest
+
+
+def deep(records, var=(1, 0, 0, 0), leaf=(3, 2, 0, 0, 11, 0, 2, 1, 11, 2, 1, 1)):
+    """wide and nested in one, of so many records: a struct of arguments `var`, whose last one is 62 structs around a product (of x, number 0, and y, number 2)"""
+    wide = records - 63 - len(leaf) // 4
+    return [8, 1, wide + 1, 0] + list(var) * wide + [8, 1, 1, 0] * 62 + list(leaf)
+
+
+def wide_and_nested():
+    """the same type for each call that replaces: the deepest stacks that were found"""
+    names, x, z, w = ('x', 'P', 'y', 'z', 'w'), [1, 0, 0, 0], [1, 3, 0, 0], [1, 4, 0, 0]
+    bound = [20, 0, 0, 0] + z + deep(2043) + [20, 0, 0, 0] + x + w    # ?z ~ the type, ?x ~ ?w
+    what = ', a wide struct that ends in 62 nested ones'
+    yield 'solve' + what, Request(23, names, [bound])
+    yield 'confirm' + what, Request(32, names, [bound])
+    yield '1 set in one call' + what, Request(30, names, [bound, [2048]], x=4, result=8196)
+    yield 'replace in a type' + what, Request(21, names, [deep(2048), [24, 0, 0, 0] + w])
+    yield 'replace in a set' + what, Request(22, names, [[21, 0, 0, 0] + deep(2047), [24, 0, 0, 0] + w])
+    yield 'judge' + what, Request(28, names, [[20, 0, 0, 0] + z + deep(2046), [0, 0], w, []])
+    yield 'quantify' + what, Request(25, names, [deep(2047), [], [0, 2]])
+    yield 'generalise' + what, Request(26, names, [[26, 0, 1, 0] + deep(2047), []])
+    yield 'instantiate' + what, Request(27, names, [[26, 2, 0, 0] + deep(2047, (14, 0, 0, 0), (3, 2, 0, 0, 15, 0, 2, 1, 15, 1, 1, 1)), [0, 2]])
+    yield 'a line that is a reference' + what, Request(31, names, [[2, 0, 0, 0], deep(2046), [0], [4]])
 
 
 def cases():
@@ -58,6 +83,7 @@ def cases():
     yield 'a line of 128 steps', Request(31, v[:129], [[1, 0, 0, 0] + [7, 0, 1, 1] * 127, km, [], list(range(128))])
     yield 'a line of 64 summands', Request(31, v[:129], [[1, 0, 0, 0] * 64 + [3, 0, 0, 0] * 63, km, [], list(range(127))])
     yield 'multiply two products of 64 factors', of('prod mul (dim %s) (dim %s)' % (dims(64, 0, '3 7'), dims(64, 0, '5 11')))
+    yield from wide_and_nested()
 
 
 def cpu(serve, data):
@@ -93,6 +119,8 @@ def main():
     base = {large: stack_of(serve, Request(4, (), [[97], [98]], result=9217 if large else 9216).bytes()) for large in (False, True)}
     print('| call | records | refusal | rounds | time of a request | stack |\n|---|---|---|---|---|---|')
     for what, q in cases():
+        if args[1:] and args[1] not in what:
+            continue
         one = q.bytes()
         r = requests.replies(subprocess.run([serve], input=one, stdout=subprocess.PIPE).stdout)[0]
         n = 20

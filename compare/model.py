@@ -1,7 +1,8 @@
 #!/usr/bin/env python3
 """The rules, with the request on adding, once more, in Python, answering cases that are written as lines of text: with DEV empty as the rules stand, with
 deviations of numbat switched on as numbat does. Used to say which difference of docs/DIFFERENCES.md explains a case, never as the
-only judge of one. It leaves well-formedness, buffers and the order of refusals at entry to the harness.
+only judge of one. Of the refusals it has 4 to 9 and 11: what is malformed (1), names (2, 3), buffers (10), lists that are too long at entry (8) and the text (12)
+it leaves to the harness; compare/README.md has what else it is no model of.
   params   closed does not count parameters; is-dimension/equal of closed types with parameters decided at once
   args     contains, variables, closed ignore the arguments of structs
   unwrap   6 while replacing in the bindings is a panic
@@ -169,6 +170,9 @@ def nest(t):
     return 1 + max(map(nest, sub), default=0)
 def ctypes(c): return [c[1], c[2]] if c[0] == 'eq' else [c[1]] if c[0] == 'isdim' else [('dim', c[1])] if c[0] == 'scalar' else [c[1], c[3]]
 def crecs(c): return 1 + sum(map(recs, ctypes(c)))
+def limited(n, ts):
+    """8 at the end of a call: over 2,048 records, or a type nested over 64"""
+    if 'big' not in DEV and (n > 2048 or any(nest(t) > 64 for t in ts)): raise Refuse(8)
 # ---------- adding and rounds
 def add(c):
     if c[0] == 'eq':
@@ -240,8 +244,13 @@ def shared_names(*ts):
     return vs & ps
 def entry(*ts):
     if 'shared' not in DEV and shared_names(*ts): raise Refuse(4)
-def solve(cs, limit=5000):
+def ceiling(cs):
+    """the rules' most rounds; with a deviation solving may go on for ever"""
+    v = len({x for c in cs for t in ctypes(c) for x in raw(t, False)})
+    return 5000 if DEV else v + 6144 * (v + 1)
+def solve(cs, limit=None):
     rounds, bs = 0, []
+    if limit is None: limit = ceiling(cs)
     try:
         entry(*[t for c in cs for t in ctypes(c)])
         while True:
@@ -258,7 +267,7 @@ def solve(cs, limit=5000):
                 except Refuse as e:
                     if e.no == 6 and 'unwrap' in DEV: return 'panic %d unwrap-nondim' % rounds
                     raise
-            if 'big' not in DEV and (sum(map(crecs, cs)) + sum(1 + recs(t) for x, t in bs) > 2048 or any(nest(t) > 64 for c in cs for t in ctypes(c)) or any(nest(t) > 64 for x, t in bs)): raise Refuse(8)
+            limited(sum(map(crecs, cs)) + sum(1 + recs(t) for x, t in bs), [t for c in cs for t in ctypes(c)] + [t for x, t in bs])
             rounds += 1
     except Refuse as e:
         return 'nondim %d %s' % (rounds, w(e.info)) if e.no == 6 else 'refused%d %d' % (e.no, rounds)
@@ -314,6 +323,7 @@ def quantify(t, bs, names):
         b = [(n, ('q', i))]
         t = rep(t, b, True)
         bs = [('q', i) if x == n else x for x in bs]
+    limited(1 + recs(t) + len(bs), [t])
     return '(scheme %d %s %s)' % (len(names), w(t), wb(bs))
 def inst(t, vs):
     h = t[0]
@@ -339,33 +349,43 @@ def answer(line):
         if c == 'solve': return solve([rc(x) for x in a])
         if c == 'confirm': return confirm([rc(x) for x in a])
         if c == 'addsolve': return solve([x for x in map(rc, a) if add(x) != 'satisfied'])
-        if c == 'add': return add(rc(a[0]))
+        if c == 'add':    # the last to the others
+            cs = list(map(rc, a)); r = add(cs[-1])
+            if r != 'satisfied': limited(sum(map(crecs, cs)), [])
+            return r
         if c == 'satisfy':
             r = rule(rc(a[0]))
             if r[0] == 'bind': return 'bind %s %s' % (nm(r[1]), w(r[2]))
             if r[0] == 'split': return ' '.join(['split'] + list(map(wc, r[1])))
             return r[0]
         if c == 'replace':
-            t, b = rd(a[0]), rbind(a[1:]); entry(t, *[u for x, u in b], *[('var', x[1]) for x, u in b]); return 'ok ' + w(rep(t, b))
+            t, b = rd(a[0]), rbind(a[1:]); entry(t, *[u for x, u in b], *[('var', x[1]) for x, u in b]); r = rep(t, b); limited(recs(r), [r])
+            return 'ok ' + w(r)
         if c == 'replaceset':
             s, b = [rc(x) for x in a[0][1:]], rbind(a[1:]); entry(*[t for x in s for t in ctypes(x)], *[u for x, u in b], *[('var', x[1]) for x, u in b])
-            return ' '.join(['ok'] + [wc(repc(x, b)) for x in s])
+            s = [repc(x, b) for x in s]; limited(sum(map(crecs, s)), [t for x in s for t in ctypes(x)])
+            return ' '.join(['ok'] + list(map(wc, s)))
         if c == 'quantify': t = rd(a[0]); entry(t); return 'ok ' + quantify(t, rbs(a[1]), rbs(a[2]))
         if c == 'generalize':
-            if a[0][0] == 'scheme': return 'ok (scheme %s %s %s)' % (a[0][1], w(rd(a[0][2])), wb(rbs(a[0][3])))
+            if a[0][0] == 'scheme': entry(rd(a[0][2])); return 'ok (scheme %s %s %s)' % (a[0][1], w(rd(a[0][2])), wb(rbs(a[0][3])))
             t = rd(a[0][1] if a[0][0] == 'concrete' else a[0])
             entry(t)
             return 'ok ' + quantify(t, [x for x in rbs(a[1]) if contains(t, x, True)], variables(t, True))
         if c == 'instantiate':
-            if a[0][0] != 'scheme': return 'panic concrete'
-            n, vs = int(a[0][1]), [x for x in a[1][1:]]
+            s = a[0]    # a concrete one is `(concrete T)` or T alone
+            t = rd(s[2] if s[0] == 'scheme' else s[1] if s[0] == 'concrete' else s); entry(t)
+            if s[0] != 'scheme': return 'panic concrete'
+            n, vs = int(s[1]), [x for x in a[1][1:]]
             if n != len(vs): return 'panic count'
-            return 'ok %s %s' % (w(inst(rd(a[0][2]), vs)), wb([('v', vs[x[1]]) if x[0] == 'q' else x for x in rbs(a[0][3])]))
+            t, bs = inst(t, vs), [('v', vs[x[1]]) if x[0] == 'q' else x for x in rbs(s[3])]; limited(recs(t) + len(bs), [t])
+            return 'ok %s %s' % (w(t), wb(bs))
+        if c in ('contains', 'closed', 'vars'): entry(rd(a[0]))
         if c == 'contains': return str(contains(rd(a[0]), rn(a[1]), a[2] == '1')).lower()
         if c == 'closed': return str(closed(rd(a[0]))).lower()
         if c == 'vars': return ' '.join(['vars'] + [nm(v) for v in variables(rd(a[0]), a[1] == '1')])
         if c == 'exp':
             n = list(map(int, a[1:])); x = F(n[0], n[1]); y = F(n[2], n[3]) if len(n) > 2 else None
+            if a[0] in ('div', 'negdiv') and y == 0: raise Refuse(7)
             r = {'new': lambda: x, 'neg': lambda: ex(-x), 'add': lambda: ex(x+y), 'cadd': lambda: ex(x+y), 'mul': lambda: ex(x*y), 'div': lambda: ex(x/y), 'negdiv': lambda: ex(ex(-x)/y)}[a[0]]()
             return 'ok %d %d' % (r.numerator, r.denominator)
         if c in ('prod', 'base'):

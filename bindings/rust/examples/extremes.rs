@@ -1,6 +1,7 @@
-//! Time and stack of the calls that the program `serve` doesn't have, at their largest inputs: `cargo run --release --example extremes`.
+//! Time and stack of calls at their largest inputs, as a caller of the archive has them: those that the program `serve` doesn't have, and those that replace, of
+//! the type that takes the deepest stack that was found: `cargo run --release --example extremes`.
 //! A time is the least of ten calls. A stack is what a call wrote to below its caller's frame, found by painting the stack first.
-use shupkelen::raw;
+use shupkelen::{kind, raw, record};
 use std::time::Instant;
 
 const PAINT: usize = 6 << 20;
@@ -102,6 +103,52 @@ fn nested(depth: usize) -> String {
     format!("{}?x{}: DType\n", "List<".repeat(depth), ">".repeat(depth))
 }
 
+/// Wide and nested in one, as text: `@P<?x, ?x, .. @P<@P<..[?x^(2) * ?y]..>>>`, of so many records.
+fn deep_text(records: usize) -> String {
+    format!("@P<{}{}[?x^(2) * ?y]{}>", "?x, ".repeat(records - 66), "@P<".repeat(62), ">".repeat(62))
+}
+
+/// The same as records: x, P and y have the numbers 0, 1 and 2; or, of a scheme, with quantified variables 0 and 1 in the place of x and y.
+fn deep(records: u32, quantified: bool) -> Vec<u32> {
+    let (variable, factor, other) = if quantified { (kind::QUANTIFIED, kind::QUANTIFIED_FACTOR, 1) } else { (kind::VARIABLE, kind::VARIABLE_FACTOR, 2) };
+    let wide = records - 66;
+    let mut words = record(kind::STRUCT, records, 1, wide + 1, 0).to_vec();
+    (0..wide).for_each(|_| words.extend(record(variable, 1, 0, 0, 0)));
+    (0..62).for_each(|i| words.extend(record(kind::STRUCT, 65 - i, 1, 1, 0)));
+    words.extend(record(kind::DIMENSION, 3, 2, 0, 0));
+    words.extend(record(factor, 1, 0, 2, 1));
+    words.extend(record(factor, 1, other, 1, 1));
+    words
+}
+
+/// The calls that replace, of that type: ?z is equal to it, or ?w is put into it in the place of ?x.
+fn wide_and_nested() {
+    let of = |call: &str, mut f: Box<dyn FnMut(&mut Lent) -> u32 + Send>| {
+        let mut lent = Lent::new();
+        ["x", "P", "y", "z", "w"].iter().for_each(|name| assert_eq!(raw::enter(&mut lent.pool, &mut lent.table, name.as_bytes()).refusal, 0));
+        measure(&format!("{call}: a wide struct that ends in 62 nested ones"), "2,048 records".to_string(), move || f(&mut lent));
+    };
+    let variable = |name: u32| record(kind::VARIABLE, 1, name, 0, 0);
+    let under = |kind: u32, a: u32, b: u32, parts: &[&[u32]]| [&record(kind, 1 + parts.concat().len() as u32 / 4, a, b, 0), parts.concat().as_slice()].concat();
+    let equal = |left: &[u32], right: &[u32]| under(kind::EQUAL, 0, 0, &[left, right]);
+    let binding = under(kind::BINDING, 0, 0, &[&variable(4)]);
+    let set = [equal(&variable(3), &deep(2043, false)), equal(&variable(0), &variable(4))].concat();
+    let (set2, set3, binding2) = (set.clone(), set.clone(), binding.clone());
+    of("replace_in_type", Box::new(move |l| raw::replace_in_type(&l.pool, &l.table, &deep(2048, false), &binding, &mut l.result, &mut l.work).refusal));
+    let line = under(kind::IS_DIMENSION, 0, 0, &[&deep(2047, false)]);
+    of("replace_in_set", Box::new(move |l| raw::replace_in_set(&l.pool, &l.table, &line, &binding2, &mut l.result, &mut l.work).refusal));
+    of("solve", Box::new(move |l| raw::solve(&l.pool, &l.table, &set, &mut l.result, &mut l.work).refusal));
+    of("confirm", Box::new(move |l| raw::confirm(&l.pool, &l.table, &set2, &mut l.result, &mut l.work).refusal));
+    of("solve_all", Box::new(move |l| raw::solve_all(&l.pool, &l.table, &set3, &[2048], &mut l.result, &mut [0; 4], &mut l.work).refusal));
+    of("quantify", Box::new(|l| raw::quantify(&l.pool, &l.table, &deep(2047, false), &[], &[0, 2], &mut l.result, &mut l.work).refusal));
+    let (concrete, quantified) = (under(kind::SCHEME, 0, 1, &[&deep(2047, false)]), under(kind::SCHEME, 2, 0, &[&deep(2047, true)]));
+    of("generalise", Box::new(move |l| raw::generalise(&l.pool, &l.table, &concrete, &[], &mut l.result, &mut l.work).refusal));
+    of("instantiate", Box::new(move |l| raw::instantiate(&l.pool, &l.table, &quantified, &[0, 2], &mut l.result, &mut l.work).refusal));
+    let judged = equal(&variable(3), &deep(2046, false));
+    of("judge", Box::new(move |l| raw::judge(&l.pool, &l.table, &judged, &[0, 0], &variable(4), &[], &mut l.work).refusal));
+    of("check_line", Box::new(|l| raw::check_line(&l.pool, &l.table, &[2, 0, 0, 0], &deep(2046, false), &[0], &[4], &mut l.result, &mut l.work).refusal));
+}
+
 fn main() {
     println!("| call | size | refusal | time | stack |\n|---|---|---|---|---|");
     // the long names of a product need 64 x 48 bytes of the pool
@@ -109,6 +156,7 @@ fn main() {
     reading("read_text: a function of 2,045 parameters", function(2045));
     reading("read_text: a function of 100,000 parameters", function(100_000));
     reading("read_text: 63 nested lists", nested(63));
+    reading("read_text: 63 nested structs, each of a field, around a product", format!("{}[?x^(2) * ?y]{}: DType\n", "@P{f: ".repeat(63), "}".repeat(63)));
     reading("read_text: 100,000 nested lists", nested(100_000));
     reading("read_text: 682 lines", (0..682).map(|i| format!("?v{:03} ~ ?v{:03}\n", i % 250, (i * 7 + 1) % 250)).collect());
     reading("read_text: comments", "-- nothing is said here\n".repeat(400_000));
@@ -116,6 +164,7 @@ fn main() {
     writing("write_text: 31 products of 64 factors, names and powers as long as can be", &long_products());
     writing("write_text: a function of 2,045 parameters", &function(2045));
     writing("write_text: 63 nested lists", &nested(63));
+    writing("write_text: a wide struct that ends in 62 nested ones", &format!("{}: DType\n", deep_text(2047)));
     let rows: String = (0..24)
         .map(|r| {
             format!(
@@ -146,4 +195,5 @@ fn main() {
     let mut lent = Lent::new();
     (0..256).for_each(|i| assert_eq!(raw::enter(&mut lent.pool, &mut lent.table, format!("{i:032}").as_bytes()).refusal, 0));
     measure("check_table: 256 names of 32 bytes that differ in the last three", "256 names".to_string(), move || raw::check_table(&lent.pool, &lent.table));
+    wide_and_nested();
 }
