@@ -18,7 +18,7 @@ def deep(records, var=(1, 0, 0, 0), leaf=(3, 2, 0, 0, 11, 0, 2, 1, 11, 2, 1, 1))
 
 
 def wide_and_nested():
-    """the same type for each call that replaces: the deepest stacks that were found"""
+    """the same type for each call that is lent a list: the deepest stacks that were found"""
     names, x, z, w = ('x', 'P', 'y', 'z', 'w'), [1, 0, 0, 0], [1, 3, 0, 0], [1, 4, 0, 0]
     bound = [20, 0, 0, 0] + z + deep(2043) + [20, 0, 0, 0] + x + w    # ?z ~ the type, ?x ~ ?w
     what = ', a wide struct that ends in 62 nested ones'
@@ -31,6 +31,11 @@ def wide_and_nested():
     yield 'quantify' + what, Request(25, names, [deep(2047), [], [0, 2]])
     yield 'generalise' + what, Request(26, names, [[26, 0, 1, 0] + deep(2047), []])
     yield 'instantiate' + what, Request(27, names, [[26, 2, 0, 0] + deep(2047, (14, 0, 0, 0), (3, 2, 0, 0, 15, 0, 2, 1, 15, 1, 1, 1)), [0, 2]])
+    yield 'is it a set' + what, Request(13, names, [[21, 0, 0, 0] + deep(2047)])
+    yield 'closed' + what, Request(18, names, [deep(2048)])
+    yield 'variables' + what, Request(19, names, [deep(2048)], y=1)
+    yield 'the ceiling' + what, Request(29, names, [[21, 0, 0, 0] + deep(2047)])
+    yield 'add' + what, Request(20, names, [[], [21, 0, 0, 0] + deep(2047)])
     yield 'a line that is a reference' + what, Request(31, names, [[2, 0, 0, 0], deep(2046), [0], [4]])
 
 

@@ -301,7 +301,7 @@ extern "C" {
     ) -> u32;
     /// Is this a solution of the set, whoever proposed it? Entries are pairs of words: a variable's number, and the place of its type in `types`, in records;
     /// an odd last word is not looked at. `bounds` has records of bounds. Says 1 for yes and 0 for no, and returns 0 for a no, too; the work buffer is left all
-    /// zero. Refuses with 10, 8 (over 2,048 pairs, too), 1, 4, then 7 and 8.
+    /// zero. Refuses with 10, 8 (over 2,048 pairs, too), 1 (an entry's number that no name has, too), 4, then 7 and 8.
     pub fn shupkelen_judge(
         pool: *const u8,
         pool_len: usize,
@@ -345,7 +345,7 @@ extern "C" {
         answer_len: usize,
     ) -> u32;
     /// A scheme from a type and bounds: the handed names, numbers in `names`, become indices 0, 1, .. in their order. At the front of `result`; says how many
-    /// records. Refuses with 10, 8, 1, 4, 9, then 6, 7 and 8.
+    /// records. Refuses with 10, 8, 1 (a handed number that no name has, too), 4, then 8 of a scheme of over 2,048 records.
     pub fn shupkelen_quantify(
         pool: *const u8,
         pool_len: usize,
@@ -365,7 +365,7 @@ extern "C" {
         answer_len: usize,
     ) -> u32;
     /// The scheme generalised: of a concrete type all names are quantified, with those of the bounds that are among them; another scheme stays. At the front of
-    /// `result`; says how many records. Refuses with 10, 8, 1, 4, then 6, 7 and 8.
+    /// `result`; says how many records. Refuses with 10, 8, 1, 4, then 8 of a scheme of over 2,048 records.
     pub fn shupkelen_generalise(
         pool: *const u8,
         pool_len: usize,
@@ -383,7 +383,7 @@ extern "C" {
         answer_len: usize,
     ) -> u32;
     /// The type and then the bounds of a scheme, with the handed names in the place of its indices. At the front of `result`; says how many records. Refuses
-    /// with 10, 8, 1, 4, 9 (as many names as the scheme has must be handed), then 6, 7 and 8.
+    /// with 10, 8, 1 (a handed number that no name has, too), 4, 9 (as many names as the scheme has must be handed), then 7.
     pub fn shupkelen_instantiate(
         pool: *const u8,
         pool_len: usize,

@@ -1,5 +1,5 @@
-//! Time and stack of calls at their largest inputs, as a caller of the archive has them: those that the program `serve` doesn't have, and those that replace, of
-//! the type that takes the deepest stack that was found: `cargo run --release --example extremes`.
+//! Time and stack of calls at their largest inputs, as a caller of the archive has them: those that the program `serve` doesn't have, and those that are lent a list,
+//! of the type that takes the deepest stack that was found: `cargo run --release --example extremes`.
 //! A time is the least of ten calls. A stack is what a call wrote to below its caller's frame, found by painting the stack first.
 use shupkelen::{kind, raw, record};
 use std::time::Instant;
@@ -121,7 +121,7 @@ fn deep(records: u32, quantified: bool) -> Vec<u32> {
     words
 }
 
-/// The calls that replace, of that type: ?z is equal to it, or ?w is put into it in the place of ?x.
+/// Calls that are lent that type: ?z is equal to it, or ?w is put into it in the place of ?x, or it is only looked at.
 fn wide_and_nested() {
     let of = |call: &str, mut f: Box<dyn FnMut(&mut Lent) -> u32 + Send>| {
         let mut lent = Lent::new();
@@ -147,6 +147,15 @@ fn wide_and_nested() {
     let judged = equal(&variable(3), &deep(2046, false));
     of("judge", Box::new(move |l| raw::judge(&l.pool, &l.table, &judged, &[0, 0], &variable(4), &[], &mut l.work).refusal));
     of("check_line", Box::new(|l| raw::check_line(&l.pool, &l.table, &[2, 0, 0, 0], &deep(2046, false), &[0], &[4], &mut l.result, &mut l.work).refusal));
+    let looked = under(kind::IS_DIMENSION, 0, 0, &[&deep(2047, false)]);
+    let (measured, eliminated, mut compacted) = (looked.clone(), looked.clone(), looked.clone());
+    let file: Vec<u8> = looked.iter().flat_map(|w| w.to_le_bytes()).collect();
+    of("is_set", Box::new(move |l| raw::is_set(&l.pool, &l.table, &looked)));
+    of("ceiling", Box::new(move |l| raw::ceiling(&l.pool, &l.table, &measured).refusal));
+    of("closed", Box::new(|l| raw::closed(&l.pool, &l.table, &deep(2048, false)).refusal));
+    of("eliminate", Box::new(move |l| raw::eliminate(&l.pool, &l.table, &eliminated, &mut l.result, &mut l.work).refusal));
+    of("rescue", Box::new(move |l| raw::rescue(&l.pool, &l.table, &file, &mut vec![0; 32768], &mut vec![0; 2049]).refusal));
+    of("compact", Box::new(move |l| raw::compact(&mut l.pool, &mut l.table, &mut compacted, &[2048]).refusal));
 }
 
 fn main() {

@@ -8,7 +8,7 @@
 //!
 //! let (mut names, mut solver) = (NameTable::new(), Solver::new());
 //! let sheet = solver.read_text(&mut names, b"?distance ~ [#km]\n[?distance * ?rate] ~ [#euro]\n")?;
-//! let solution = solver.solve(&names, &sheet.records)?;
+//! let solution = solver.confirm(&names, &sheet.records)?;
 //! let lines: Vec<String> = solution.bindings(&names)?.iter().map(|b| b.to_string()).collect();
 //! assert_eq!(lines, ["?distance ~ [#km]", "?rate ~ [#euro * #km^(-1)]"]);
 //! # Ok::<(), Box<dyn std::error::Error>>(())
@@ -130,11 +130,11 @@ pub const fn record(kind: u32, length: u32, a: u32, b: u32, c: u32) -> [u32; 4] 
 #[repr(u32)]
 #[non_exhaustive]
 pub enum Refusal {
-    /// A table, list, product or exponent that is not well formed; a number that no name has, in a list.
+    /// A table, list, product or exponent that is not well formed; a number that no name has, in a list, an entry or among handed ones.
     Malformed = 1,
     /// A name of no byte, or of over 48.
     NameLength = 2,
-    /// No room for a name; or a number was asked for that no name has.
+    /// No room for a name; or a number was asked for, or lent for a line, that no name has.
     NoRoom = 3,
     /// One name is both a variable and a parameter; a name lent for a line is given twice or used in it.
     Mixed = 4,
@@ -653,7 +653,7 @@ impl Solver {
     ///
     /// # Errors
     /// [`Refusal::TooLarge`], [`Refusal::Malformed`], [`Refusal::Mixed`] as [`Solver::solve`]; [`Refusal::TooLarge`] of a set that it doesn't take: another constraint, over 24
-    /// variables, over 24 other names, over 24 rows; then [`Refusal::Unsolved`] with what remains, [`Refusal::OutOfRange`] or [`Refusal::TooLarge`].
+    /// variables, over 24 other names, over 24 rows; then [`Refusal::Unsolved`] with what remains, or [`Refusal::OutOfRange`].
     pub fn eliminate(&mut self, names: &NameTable, set: &[u32]) -> Result<Solution, Stopped> {
         let t = raw::eliminate(&names.pool, &names.table, set, &mut self.result, &mut self.work);
         self.solution(t, 0, 0)
@@ -663,7 +663,8 @@ impl Solver {
     /// of an answer.
     ///
     /// # Errors
-    /// [`Refusal::TooLarge`], [`Refusal::Malformed`], [`Refusal::Mixed`] at entry; then the first [`Refusal::OutOfRange`] or [`Refusal::TooLarge`] that is met.
+    /// [`Refusal::TooLarge`], [`Refusal::Malformed`] (of an entry's number that no name has, too), [`Refusal::Mixed`] at entry; then the first [`Refusal::OutOfRange`] or
+    /// [`Refusal::TooLarge`] that is met.
     pub fn judge(&mut self, names: &NameTable, set: &[u32], entries: &[Entry], types: &[u32], bounds: &[u32]) -> Result<bool, Refusal> {
         let pairs: Vec<u32> = entries.iter().flat_map(|e| [e.variable, e.place]).collect();
         said(raw::judge(&names.pool, &names.table, set, &pairs, types, bounds, &mut self.work)).map(|t| t.value == 1)
@@ -746,7 +747,7 @@ impl Solver {
     /// A scheme from a type and bounds, with handed names quantified.
     ///
     /// # Errors
-    /// [`Refusal::TooLarge`], [`Refusal::Malformed`] (of a handed number that no name has, too), [`Refusal::Mixed`]; then [`Refusal::OutOfRange`], [`Refusal::TooLarge`].
+    /// [`Refusal::TooLarge`], [`Refusal::Malformed`] (of a handed number that no name has, too), [`Refusal::Mixed`]; then [`Refusal::TooLarge`] of a scheme of over 2,048 records.
     pub fn quantify(&mut self, names: &NameTable, words: &[u32], bounds: &[u32], handed: &[u32]) -> Result<Vec<u32>, Refusal> {
         let t = raw::quantify(&names.pool, &names.table, words, bounds, handed, &mut self.result, &mut self.work);
         self.records(t)
@@ -764,7 +765,8 @@ impl Solver {
     /// The type of a scheme, then its bounds, with handed names put back.
     ///
     /// # Errors
-    /// As [`Solver::quantify`]; [`Refusal::WrongCount`] behind [`Refusal::Mixed`], of another count of names than the scheme has, and of a concrete type.
+    /// [`Refusal::TooLarge`], [`Refusal::Malformed`], [`Refusal::Mixed`] as [`Solver::quantify`]; [`Refusal::WrongCount`] of another count of names than the scheme has, and of a
+    /// concrete type; then [`Refusal::OutOfRange`], where powers of one name are added.
     pub fn instantiate(&mut self, names: &NameTable, scheme: &[u32], handed: &[u32]) -> Result<Vec<u32>, Refusal> {
         let t = raw::instantiate(&names.pool, &names.table, scheme, handed, &mut self.result, &mut self.work);
         self.records(t)

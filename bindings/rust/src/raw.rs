@@ -212,7 +212,7 @@ pub fn eliminate(pool: &[u8], table: &[u32], set: &[u32], result: &mut [u32], wo
 
 /// Is this a solution of the set, whoever proposed it? Entries are pairs of words: a variable's number, and the place of its type in `types`, in records; an
 /// odd last word is not looked at. `bounds` has records of bounds. Says 1 for yes and 0 for no, and returns 0 for a no, too; the work buffer is left all zero.
-/// Refuses with 10, 8 (over 2,048 pairs, too), 1, 4, then 7 and 8.
+/// Refuses with 10, 8 (over 2,048 pairs, too), 1 (an entry's number that no name has, too), 4, then 7 and 8.
 pub fn judge(pool: &[u8], table: &[u32], set: &[u32], entries: &[u32], types: &[u32], bounds: &[u32], work: &mut [u32]) -> Told {
     ask!(shupkelen_judge, &pool, &table, &set, &entries, &types, &bounds, mut work)
 }
@@ -227,19 +227,19 @@ pub fn check_line(pool: &[u8], table: &[u32], steps: &[u32], types: &[u32], line
 }
 
 /// A scheme from a type and bounds: the handed names, numbers in `names`, become indices 0, 1, .. in their order. At the front of `result`; says how many
-/// records. Refuses with 10, 8, 1, 4, 9, then 6, 7 and 8.
+/// records. Refuses with 10, 8, 1 (a handed number that no name has, too), 4, then 8 of a scheme of over 2,048 records.
 pub fn quantify(pool: &[u8], table: &[u32], words: &[u32], bounds: &[u32], names: &[u32], result: &mut [u32], work: &mut [u32]) -> Told {
     ask!(shupkelen_quantify, &pool, &table, &words, &bounds, &names, mut result, mut work)
 }
 
 /// The scheme generalised: of a concrete type all names are quantified, with those of the bounds that are among them; another scheme stays. At the front of
-/// `result`; says how many records. Refuses with 10, 8, 1, 4, then 6, 7 and 8.
+/// `result`; says how many records. Refuses with 10, 8, 1, 4, then 8 of a scheme of over 2,048 records.
 pub fn generalise(pool: &[u8], table: &[u32], scheme: &[u32], bounds: &[u32], result: &mut [u32], work: &mut [u32]) -> Told {
     ask!(shupkelen_generalise, &pool, &table, &scheme, &bounds, mut result, mut work)
 }
 
 /// The type and then the bounds of a scheme, with the handed names in the place of its indices. At the front of `result`; says how many records. Refuses with
-/// 10, 8, 1, 4, 9 (as many names as the scheme has must be handed), then 6, 7 and 8.
+/// 10, 8, 1 (a handed number that no name has, too), 4, 9 (as many names as the scheme has must be handed), then 7.
 pub fn instantiate(pool: &[u8], table: &[u32], scheme: &[u32], names: &[u32], result: &mut [u32], work: &mut [u32]) -> Told {
     ask!(shupkelen_instantiate, &pool, &table, &scheme, &names, mut result, mut work)
 }

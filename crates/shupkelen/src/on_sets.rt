@@ -160,7 +160,7 @@ pub extern "C" fn shupkelen_eliminate(
 
 /// Is this a solution of the set, whoever proposed it? Entries are pairs of words: a variable's number, and the place of its type in `types`, in records;
 /// an odd last word is not looked at. `bounds` has records of bounds. Says 1 for yes and 0 for no, and returns 0 for a no, too; the work buffer is left all
-/// zero. Refuses with 10, 8 (over 2,048 pairs, too), 1, 4, then 7 and 8.
+/// zero. Refuses with 10, 8 (over 2,048 pairs, too), 1 (an entry's number that no name has, too), 4, then 7 and 8.
 #[unsafe(no_mangle)]
 pub extern "C" fn shupkelen_judge(
     pool: &[u8],
@@ -207,7 +207,7 @@ pub extern "C" fn shupkelen_check_line(
 }
 
 /// A scheme from a type and bounds: the handed names, numbers in `names`, become indices 0, 1, .. in their order. At the front of `res`; says how many
-/// records. Refuses with 10, 8, 1, 4, 9, then 6, 7 and 8.
+/// records. Refuses with 10, 8, 1 (a handed number that no name has, too), 4, then 8 of a scheme of over 2,048 records.
 #[unsafe(no_mangle)]
 pub extern "C" fn shupkelen_quantify(
     pool: &[u8],
@@ -229,7 +229,7 @@ pub extern "C" fn shupkelen_quantify(
 }
 
 /// The scheme generalised: of a concrete type all names are quantified, with those of the bounds that are among them; another scheme stays. At the front
-/// of `res`; says how many records. Refuses with 10, 8, 1, 4, then 6, 7 and 8.
+/// of `res`; says how many records. Refuses with 10, 8, 1, 4, then 8 of a scheme of over 2,048 records.
 #[unsafe(no_mangle)]
 pub extern "C" fn shupkelen_generalise(
     pool: &[u8],
@@ -249,7 +249,7 @@ pub extern "C" fn shupkelen_generalise(
 }
 
 /// The type and then the bounds of a scheme, with the handed names in the place of its indices. At the front of `res`; says how many records. Refuses
-/// with 10, 8, 1, 4, 9 (as many names as the scheme has must be handed), then 6, 7 and 8.
+/// with 10, 8, 1 (a handed number that no name has, too), 4, 9 (as many names as the scheme has must be handed), then 7.
 #[unsafe(no_mangle)]
 pub extern "C" fn shupkelen_instantiate(
     pool: &[u8],
