@@ -10,7 +10,8 @@ use Rattle.rules.specs.Calls.{Solved, solved, refusedAfter, setCall, solveCall}
 use Rattle.rules.specs.CasesOfCompaction.{group}
 use Rattle.rules.specs.Compaction.{Compacted, compactCall}
 use Rattle.rules.specs.Grammar.{ascii}
-use Rattle.rules.specs.TextReading.{ReadAnswer, wasRead, notRead, readTextCall}
+use Rattle.rules.specs.TextReading.{ReadAnswer, wasRead, notRead, sheet, refusedIn, readTextCall}
+use Rattle.rules.specs.Trees.{Con, opened, var, basic, boolean, equal}
 use Rattle.rules.specs.Rules.{rules}
 use Rattle.rules.specs.Sheets.{sheets}
 use Rattle.rules.specs.Examples.{pool, table, result, work, x}
@@ -34,6 +35,8 @@ use Rattle.rules.specs.Offices.{
   fill,
   written,
 }
+use Rattle.theorems_offices.specs.Deeds as deeds
+use Rattle.theorems_offices.specs.Deeds.{Deed, reads, Done, afterDeeds, Reply, outcome, repliesTo}
 
 abbrev enters : Office → Bytes → Entering
 enters o n = record { by = o; name = n }
@@ -153,3 +156,24 @@ orders-differ : left alone (words twoBounds) ∷ left second (words (map (fill (
     ≡ ((97 ∷ []) ∷ (98 ∷ []) ∷ []) ∷ ((98 ∷ []) ∷ (97 ∷ []) ∷ []) ∷ []
 unfolding rules group counting entered afterAll fill
 orders-differ = refl
+
+-- the same sheet has other numbers where the other office came first, with a sheet or a name of its own; a sheet that is refused in its second line
+-- leaves no name
+abbrev does : Office → Deed → Done
+does o d = record { by = o; deed = d }
+
+abbrev setOf : Reply → List (Con ℕ)
+setOf (outcome (sheet cs u)) = cs
+setOf (outcome (refusedIn n l c)) = []
+setOf (deeds.number a) = []
+
+sheet-numbers : map setOf (repliesTo here empty (does here (reads (ascii "?x ~ Bool")) ∷ [])
+    ++ repliesTo here empty (does there (reads (ascii "?y ~ Bool")) ∷ does there (deeds.enters (122 ∷ [])) ∷ does here (reads (ascii "?x ~ Bool")) ∷ []))
+    ≡ (equal (opened (var 0)) (basic boolean) ∷ []) ∷ (equal (opened (var 2)) (basic boolean) ∷ []) ∷ []
+unfolding rules sheets entered repliesTo deeds.replyTo deeds.afterDeed
+sheet-numbers = refl
+
+refused-leaves-nothing : names_of (tableIn (afterDeeds empty (does there (reads (ascii "?y ~ Bool\n?")) ∷ does here (reads (ascii "?x ~ Bool")) ∷ [])))
+    ≡ (120 ∷ []) ∷ []
+unfolding rules sheets afterDeeds deeds.afterDeed
+refused-leaves-nothing = refl

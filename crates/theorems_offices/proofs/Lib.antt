@@ -39,3 +39,4 @@ pub mod Rescues
 pub mod Steps
 pub mod Readings
 pub mod Sheets
+pub mod Deeds

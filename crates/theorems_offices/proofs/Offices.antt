@@ -42,7 +42,7 @@ use Rattle.theorems_offices.proofs.Histories.{good-after, all_named}
 
 -- ══ Lists that read alike are answered alike ══
 
-numbering' : {pool table pool' table' : List ℕ} → Good pool table → Good pool' table' → CallsAlike pool table pool' table'
+pub numbering' : {pool table pool' table' : List ℕ} → Good pool table → Good pool' table' → CallsAlike pool table pool' table'
 numbering' g g' = record {
   asked = asked-alike g g';
   multiply = multiply-alike g g';

@@ -3,7 +3,7 @@
 use Rattle.std.specs.Prelude.{◌≡◌, Bool, true, false, List, map, ℕ, length}
 use Rattle.rules.specs.Base.{got, bounded}
 use Rattle.rules.specs.Trees.{Con}
-use Rattle.rules.specs.Names.{Bytes, table_of, tableGiven}
+use Rattle.rules.specs.Names.{Bytes, table_of, tableGiven, nameAsked}
 use Rattle.rules.specs.Solving.{solve}
 use Rattle.rules.specs.Calls.{containsCall}
 use Rattle.rules.specs.Elimination.{eliminateCall}
@@ -27,11 +27,13 @@ use Rattle.rules.specs.Offices.{
   Office,
   Entering,
   Shared,
+  tableIn,
   namesBy,
   answersTo,
   hadRoom,
   Unmoved,
 }
+use Rattle.theorems_offices.specs.Deeds.{Done, afterDeeds, deedsBy, repliesTo, hadRoomFor, EachAlike}
 use Rattle.theorems_offices.specs.Numbered.{numbers}
 
 -- lists that read alike are answered alike by every call
@@ -87,3 +89,19 @@ SolvedByNames = (pool table : List ℕ) → tableGiven pool table ≡ got tt →
 abbrev pub OfficesUnmoved : Type 0
 OfficesUnmoved = (o : Office) (s s' : Shared) (es es' : List Entering) → tableGiven s.pool s.table ≡ got tt → tableGiven s'.pool s'.table ≡ got tt
     → namesBy o es ≡ namesBy o es' → hadRoom (answersTo o s es) ≡ true → hadRoom (answersTo o s' es') ≡ true → Unmoved o s s' es es'
+
+-- names are entered and sheets are read, by either office and in any order. Two histories in which an office did the same in the same order and met no 3,
+-- whatever the other did and met, and whatever was held before: each answer, read with the names at the end, is the same; a sheet that was read reads alike
+-- then, and every call answers alike what reads alike
+pub record DeedsAlike (o : Office) (s s' : Shared) (ds ds' : List Done) : Type 0 where
+  pub replies : EachAlike (tableIn (afterDeeds s ds)) (tableIn (afterDeeds s' ds')) (repliesTo o s ds) (repliesTo o s' ds')
+  pub calls : CallsAlike (afterDeeds s ds).pool (afterDeeds s ds).table (afterDeeds s' ds').pool (afterDeeds s' ds').table
+
+abbrev pub DeedsUnmoved : Type 0
+DeedsUnmoved = (o : Office) (s s' : Shared) (ds ds' : List Done) → tableGiven s.pool s.table ≡ got tt → tableGiven s'.pool s'.table ≡ got tt
+    → deedsBy o ds ≡ deedsBy o ds' → hadRoomFor (repliesTo o s ds) ≡ true → hadRoomFor (repliesTo o s' ds') ≡ true → DeedsAlike o s s' ds ds'
+
+-- reading a sheet, accepted or refused, takes no number's name away and gives it no other
+abbrev pub ReadingKeepsNames : Type 0
+ReadingKeepsNames = (pool table : List ℕ) (text : Bytes) (result work : List ℕ) (j : ℕ) (n : Bytes) → nameAsked pool table j ≡ got n
+    → nameAsked (readTextCall pool table text result work).pool (readTextCall pool table text result work).table j ≡ got n

@@ -3,6 +3,7 @@
 
 ghost use Rattle.theorems_offices.specs.Theorems.{ReadAlikeAnsweredAlike, ContainsByName, SolvedByNames, OfficesUnmoved};
 ghost use Rattle.theorems_offices.specs.Theorems.{TextWrittenAlike, TextReadingsAlike, EngineAlike, RescuesAlike};
+ghost use Rattle.theorems_offices.specs.Theorems.{DeedsUnmoved, ReadingKeepsNames};
 
 /// Lists that read alike with names, over two tables, are answered alike by every call (`numbering`).
 pub fn read_alike_answered_alike()
@@ -42,4 +43,15 @@ pub fn solved_by_names()
 /// Each office's answers, read with names, do not depend on what the other entered (`unmoved`).
 pub fn offices_unmoved()
     ensures { OfficesUnmoved }
+{}
+
+/// Where offices enter names and read sheets, in any order: each office's answers, read with names, do not depend on what the other entered or read; and the
+/// sheets that it read still read alike at the end (`deeds-unmoved`).
+pub fn offices_unmoved_by_sheets()
+    ensures { DeedsUnmoved }
+{}
+
+/// Reading a sheet takes no number's name away and gives it no other, whether the sheet is accepted or refused (`reading-keeps`).
+pub fn reading_keeps_names()
+    ensures { ReadingKeepsNames }
 {}

@@ -11,25 +11,12 @@ use Rattle.rules.specs.declared.Unseen.{Unseen}
 use Rattle.laws.proofs.Lists.{some≢none}
 use Rattle.laws.specs.NameTable.{Good}
 use Rattle.theorems_offices.proofs.Steps.{Grows, grows-same, grows-on}
-use Rattle.theorems_offices.proofs.Readings.{SheetsOut, three-at, three-at', refused-at, both-read, sheets-alike}
+use Rattle.theorems_offices.proofs.Deeds.{Keeps, sheet-left}
 
 -- ══ What a sheet leaves ══
 
-record Left (pool table pool' table' : List ℕ) : Type 0 where
-  good : Good pool' table'
-  grown : Grows (table_of pool table) (table_of pool' table')
-
-sheet-left : {pool table : List ℕ} → Good pool table → (text : Bytes) (cs : List (Con ℕ)) (s : Sofar) → sheetRead pool table text ≡ sheet cs s
-    → Left pool table s.pool s.table
-sheet-left {pool} {table} g text cs s e = go (sheets-alike g g text) e e
-  where
-    go : {x x' : Sheet} → SheetsOut (table_of pool table) (table_of pool table) x x' → x ≡ sheet cs s → x' ≡ sheet cs s → Left pool table s.pool s.table
-    go (three-at l c x) e f = absurd (cc)
-    go (three-at' x l c) e f = absurd (cc)
-    go (refused-at n l c) e f = absurd (cc)
-    go (both-read ds ds' r r' b q) e f =
-        let i : r ≡ s = cc in
-        subst (λ (z : Sofar). Left pool table z.pool z.table) i (record { good = b.good; grown = b.grown.here })
+abbrev Left : List ℕ → List ℕ → List ℕ → List ℕ → Type 0
+Left pool table pool' table' = Keeps (record { pool = pool; table = table }) (record { pool = pool'; table = table' })
 
 -- what is left behind all files
 all-left : (files : List File) (pool table : List ℕ) → Good pool table
