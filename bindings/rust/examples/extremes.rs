@@ -123,10 +123,10 @@ fn deep(records: u32, quantified: bool) -> Vec<u32> {
 
 /// Calls that are lent that type: ?z is equal to it, or ?w is put into it in the place of ?x, or it is only looked at.
 fn wide_and_nested() {
-    let of = |call: &str, mut f: Box<dyn FnMut(&mut Lent) -> u32 + Send>| {
+    let of = |call: &str, records: u32, mut f: Box<dyn FnMut(&mut Lent) -> u32 + Send>| {
         let mut lent = Lent::new();
         ["x", "P", "y", "z", "w"].iter().for_each(|name| assert_eq!(raw::enter(&mut lent.pool, &mut lent.table, name.as_bytes()).refusal, 0));
-        measure(&format!("{call}: a wide struct that ends in 62 nested ones"), "2,048 records".to_string(), move || f(&mut lent));
+        measure(&format!("{call}: a wide struct that ends in 62 nested ones"), format!("{records} records"), move || f(&mut lent));
     };
     let variable = |name: u32| record(kind::VARIABLE, 1, name, 0, 0);
     let under = |kind: u32, a: u32, b: u32, parts: &[&[u32]]| [&record(kind, 1 + parts.concat().len() as u32 / 4, a, b, 0), parts.concat().as_slice()].concat();
@@ -134,28 +134,28 @@ fn wide_and_nested() {
     let binding = under(kind::BINDING, 0, 0, &[&variable(4)]);
     let set = [equal(&variable(3), &deep(2043, false)), equal(&variable(0), &variable(4))].concat();
     let (set2, set3, binding2) = (set.clone(), set.clone(), binding.clone());
-    of("replace_in_type", Box::new(move |l| raw::replace_in_type(&l.pool, &l.table, &deep(2048, false), &binding, &mut l.result, &mut l.work).refusal));
+    of("replace_in_type", 2048, Box::new(move |l| raw::replace_in_type(&l.pool, &l.table, &deep(2048, false), &binding, &mut l.result, &mut l.work).refusal));
     let line = under(kind::IS_DIMENSION, 0, 0, &[&deep(2047, false)]);
-    of("replace_in_set", Box::new(move |l| raw::replace_in_set(&l.pool, &l.table, &line, &binding2, &mut l.result, &mut l.work).refusal));
-    of("solve", Box::new(move |l| raw::solve(&l.pool, &l.table, &set, &mut l.result, &mut l.work).refusal));
-    of("confirm", Box::new(move |l| raw::confirm(&l.pool, &l.table, &set2, &mut l.result, &mut l.work).refusal));
-    of("solve_all", Box::new(move |l| raw::solve_all(&l.pool, &l.table, &set3, &[2048], &mut l.result, &mut [0; 4], &mut l.work).refusal));
-    of("quantify", Box::new(|l| raw::quantify(&l.pool, &l.table, &deep(2047, false), &[], &[0, 2], &mut l.result, &mut l.work).refusal));
+    of("replace_in_set", 2048, Box::new(move |l| raw::replace_in_set(&l.pool, &l.table, &line, &binding2, &mut l.result, &mut l.work).refusal));
+    of("solve", 2048, Box::new(move |l| raw::solve(&l.pool, &l.table, &set, &mut l.result, &mut l.work).refusal));
+    of("confirm", 2048, Box::new(move |l| raw::confirm(&l.pool, &l.table, &set2, &mut l.result, &mut l.work).refusal));
+    of("solve_all", 2048, Box::new(move |l| raw::solve_all(&l.pool, &l.table, &set3, &[2048], &mut l.result, &mut [0; 4], &mut l.work).refusal));
+    of("quantify", 2047, Box::new(|l| raw::quantify(&l.pool, &l.table, &deep(2047, false), &[], &[0, 2], &mut l.result, &mut l.work).refusal));
     let (concrete, quantified) = (under(kind::SCHEME, 0, 1, &[&deep(2047, false)]), under(kind::SCHEME, 2, 0, &[&deep(2047, true)]));
-    of("generalise", Box::new(move |l| raw::generalise(&l.pool, &l.table, &concrete, &[], &mut l.result, &mut l.work).refusal));
-    of("instantiate", Box::new(move |l| raw::instantiate(&l.pool, &l.table, &quantified, &[0, 2], &mut l.result, &mut l.work).refusal));
+    of("generalise", 2048, Box::new(move |l| raw::generalise(&l.pool, &l.table, &concrete, &[], &mut l.result, &mut l.work).refusal));
+    of("instantiate", 2048, Box::new(move |l| raw::instantiate(&l.pool, &l.table, &quantified, &[0, 2], &mut l.result, &mut l.work).refusal));
     let judged = equal(&variable(3), &deep(2046, false));
-    of("judge", Box::new(move |l| raw::judge(&l.pool, &l.table, &judged, &[0, 0], &variable(4), &[], &mut l.work).refusal));
-    of("check_line", Box::new(|l| raw::check_line(&l.pool, &l.table, &[2, 0, 0, 0], &deep(2046, false), &[0], &[4], &mut l.result, &mut l.work).refusal));
+    of("judge", 2048, Box::new(move |l| raw::judge(&l.pool, &l.table, &judged, &[0, 0], &variable(4), &[], &mut l.work).refusal));
+    of("check_line", 2046, Box::new(|l| raw::check_line(&l.pool, &l.table, &[2, 0, 0, 0], &deep(2046, false), &[0], &[4], &mut l.result, &mut l.work).refusal));
     let looked = under(kind::IS_DIMENSION, 0, 0, &[&deep(2047, false)]);
     let (measured, eliminated, mut compacted) = (looked.clone(), looked.clone(), looked.clone());
     let file: Vec<u8> = looked.iter().flat_map(|w| w.to_le_bytes()).collect();
-    of("is_set", Box::new(move |l| raw::is_set(&l.pool, &l.table, &looked)));
-    of("ceiling", Box::new(move |l| raw::ceiling(&l.pool, &l.table, &measured).refusal));
-    of("closed", Box::new(|l| raw::closed(&l.pool, &l.table, &deep(2048, false)).refusal));
-    of("eliminate", Box::new(move |l| raw::eliminate(&l.pool, &l.table, &eliminated, &mut l.result, &mut l.work).refusal));
-    of("rescue", Box::new(move |l| raw::rescue(&l.pool, &l.table, &file, &mut vec![0; 32768], &mut vec![0; 2049]).refusal));
-    of("compact", Box::new(move |l| raw::compact(&mut l.pool, &mut l.table, &mut compacted, &[2048]).refusal));
+    of("is_set", 2048, Box::new(move |l| raw::is_set(&l.pool, &l.table, &looked)));
+    of("ceiling", 2048, Box::new(move |l| raw::ceiling(&l.pool, &l.table, &measured).refusal));
+    of("closed", 2048, Box::new(|l| raw::closed(&l.pool, &l.table, &deep(2048, false)).refusal));
+    of("eliminate", 2048, Box::new(move |l| raw::eliminate(&l.pool, &l.table, &eliminated, &mut l.result, &mut l.work).refusal));
+    of("rescue", 2048, Box::new(move |l| raw::rescue(&l.pool, &l.table, &file, &mut vec![0; 32768], &mut vec![0; 2049]).refusal));
+    of("compact", 2048, Box::new(move |l| raw::compact(&mut l.pool, &mut l.table, &mut compacted, &[2048]).refusal));
 }
 
 fn main() {
