@@ -1,4 +1,4 @@
--- `engine_matrix::grids::binding` meets its contract: each place where a power can leave the range, and the machine afterwards.
+-- `inner::grids::binding` meets its contract: each place where a power can leave the range, and the machine afterwards.
 use mathlib.Core.Path.{◌≡◌, ap, ◌∙◌, sym}
 use mathlib.Core.List.{List}
 use Prim.Native.Nat.{ℕ}

@@ -1,4 +1,4 @@
--- `engine_matrix::grids::eliminate` meets its contract. The invariant: what is left to do is what there was to do.
+-- `inner::grids::eliminate` meets its contract. The invariant: what is left to do is what there was to do.
 use mathlib.Core.Path.{refl, ◌∙◌, sym}
 use native.Mathlib.Omega.{arith}
 use Rattle.std.proofs.lemmas.Result.{err_from_is_err_and}

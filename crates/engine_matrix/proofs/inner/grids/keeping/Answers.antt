@@ -1,4 +1,4 @@
--- `engine_matrix::grids::keeping` meets its contract.
+-- `inner::grids::keeping` meets its contract.
 use native.Mathlib.Omega.{arith}
 use Rattle.engine_matrix.specs.Machine.{rest}
 use Rattle.engine_matrix.proofs.Steps.{went-keeping}

@@ -1,4 +1,4 @@
--- `engine_matrix::grids::put_in_rows` meets its contract. The invariant: the rows so far, and those to come, are all of them.
+-- `inner::grids::put_in_rows` meets its contract. The invariant: the rows so far, and those to come, are all of them.
 use mathlib.Core.Path.{◌≡◌, ap, ◌∙◌, sym}
 use mathlib.Core.List.{List, []}
 use Prim.Native.Nat.{ℕ, ◌+◌, ◌<◌, ◌≤◌}

@@ -1,4 +1,4 @@
--- `engine_matrix::grids::row_at` meets its contract.
+-- `inner::grids::row_at` meets its contract.
 use Rattle.engine_matrix.proofs.Loops.{grid-at}
 use Rattle.engine_matrix.proofs.inner.grids.row_at.Goals as goal
 

@@ -1,4 +1,4 @@
--- `engine_matrix::grids::step` meets its contract, by the first power of the row that isn't 0.
+-- `inner::grids::step` meets its contract, by the first power of the row that isn't 0.
 use mathlib.Core.Path.{◌≡◌, ap, ◌∙◌, sym}
 use Prim.Native.Nat.{ℕ, ◌<◌, ◌≤◌}
 use native.Mathlib.Omega.{arith}

@@ -1,4 +1,4 @@
--- `engine_matrix::grids::with_row` meets its contract.
+-- `inner::grids::with_row` meets its contract.
 use mathlib.Core.Path.{◌∙◌}
 use Rattle.std.proofs.lemmas.List.{length-set}
 use Rattle.engine_matrix.specs.Grids.{rowsIn}

@@ -1,4 +1,4 @@
--- `engine_matrix::rows::first_in` meets its contract. The invariant: every power that was passed is 0.
+-- `inner::rows::first_in` meets its contract. The invariant: every power that was passed is 0.
 use mathlib.Core.Path.{ap, ◌∙◌, sym}
 use native.Mathlib.Omega.{arith}
 use Rattle.rules.specs.Exponents.{isZero}

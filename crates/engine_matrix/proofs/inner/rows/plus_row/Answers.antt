@@ -1,4 +1,4 @@
--- `engine_matrix::rows::plus_row` meets its contract. The invariant: the sums so far, and those to come, are all of them.
+-- `inner::rows::plus_row` meets its contract. The invariant: the sums so far, and those to come, are all of them.
 use mathlib.Core.Path.{◌≡◌, ap, ap₂, ◌∙◌, sym}
 use mathlib.Core.Bool.{true}
 use Prim.Native.Nat.{ℕ}

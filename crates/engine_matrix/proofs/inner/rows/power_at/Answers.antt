@@ -1,4 +1,4 @@
--- `engine_matrix::rows::power_at` meets its contract.
+-- `inner::rows::power_at` meets its contract.
 use Rattle.engine_matrix.proofs.Loops.{power-at}
 use Rattle.engine_matrix.proofs.inner.rows.power_at.Goals as goal
 

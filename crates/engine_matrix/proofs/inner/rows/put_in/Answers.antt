@@ -1,4 +1,4 @@
--- `engine_matrix::rows::put_in` meets its contract.
+-- `inner::rows::put_in` meets its contract.
 use mathlib.Core.Path.{ap, ◌∙◌, sym}
 use lib.ListN.{set}
 use Rattle.std.proofs.lemmas.Result.{err_from_is_err_and}

@@ -1,4 +1,4 @@
--- `engine_matrix::rows::solved_for` meets its contract.
+-- `inner::rows::solved_for` meets its contract.
 use mathlib.Core.Path.{ap₂, ◌∙◌}
 use Rattle.laws.proofs.Ranges.{nought-good}
 use Rattle.rules.specs.Elimination.{solvedFor}

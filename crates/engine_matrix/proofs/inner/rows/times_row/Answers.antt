@@ -1,4 +1,4 @@
--- `engine_matrix::rows::times_row` meets its contract. The invariant: the products so far, and those to come, are all of them.
+-- `inner::rows::times_row` meets its contract. The invariant: the products so far, and those to come, are all of them.
 use mathlib.Core.Path.{◌≡◌, ap, ◌∙◌, sym}
 use mathlib.Core.Bool.{true}
 use native.Mathlib.Omega.{arith}

@@ -1,4 +1,4 @@
--- `engine_matrix::rows::with_power` meets its contract.
+-- `inner::rows::with_power` meets its contract.
 use mathlib.Core.Path.{ap, ◌∙◌}
 use lib.ListN.{length}
 use Rattle.std.proofs.lemmas.List.{length-set}
