@@ -8,7 +8,7 @@ use Rattle.std.proofs.Math.ListN.{length}
 use Rattle.rules.specs.Base.{Got, got, refused, ◌>>=◌, each}
 use Rattle.std.proofs.Math.Dec.{leb}
 use Rattle.rules.specs.Names.{Bytes}
-use Rattle.rules.specs.Trees.{Atom, Product, Con, is_scalar}
+use Rattle.rules.specs.Trees.{Atom, Product, Names, Con, is_scalar}
 use Rattle.laws.specs.Lists.{Every}
 use Rattle.laws.specs.NameTable.{Good}
 use Rattle.laws.specs.ByteOrder.{numbered-lawful}
@@ -23,16 +23,19 @@ use Rattle.engine_rows.proofs.OnLines.{LaidSo, laid-so}
 use Rattle.engine_rows.specs.Columns.{Known, listed}
 use Rattle.engine_rows.proofs.Columns.{Listed, listed-eight, few-enough}
 use Rattle.engine_rows.proofs.Fitted.{known, fits-then, fits-so, listed-columns}
-use Rattle.records.specs.Good.{Chain, GoodCon, holding}
+use Rattle.records.specs.Good.{Chain, GoodCon, numbers, holding}
 use Rattle.engine_matrix.specs.declared.inner.parts.Columns.{Columns}
 use Rattle.rules.specs.Elimination as Rows
 use Rattle.std.proofs.lemmas.List.{length-map}
 use Rattle.laws.proofs.Lists.{clash, same-number}
 use Rattle.rules.specs.Elimination.{Row, eliminate, settledBy, scalarOf, columns, fits, fitting}
 use Rattle.engine_matrix.specs.Machine.{colsIn}
-use Rattle.engine.specs.Reducing.{ν, reduction}
+use Rattle.engine.specs.Reducing.{reduction}
 
 module _ (pool table : List ℕ) (cs : List (Con ℕ)) where
+  abbrev ν : Names ℕ
+  ν = numbers pool table
+
   -- what isn't laid out doesn't fit
   pub laid-unfit : (names : List Bytes) (cols : List (Atom ℕ)) (j : ℕ) → laidOut names cols cs ≡ refused j → reduction pool table cs ≡ refused j
   unfolding laidOut fitting fits
@@ -58,22 +61,22 @@ module _ (pool table : List ℕ) (cs : List (Con ℕ)) where
     set_known = known pool table s out.products e scalar-chain
 
     -- too many names
-    pub names-unfit : (j : ℕ) → listed (ν pool table cs) s e ≡ refused j → reduction pool table cs ≡ refused j
+    pub names-unfit : (j : ℕ) → listed ν s e ≡ refused j → reduction pool table cs ≡ refused j
     unfolding fitting
-    names-unfit j i = go (fits (ν pool table cs) out.products) refl
+    names-unfit j i = go (fits ν out.products) refl
       where
-        go : (b : Bool) → fits (ν pool table cs) out.products ≡ b → reduction pool table cs ≡ refused j
-        go true k = let t = fits-then pool table s out.products e scalar-chain k in clash (sym i ∙ few-enough (ν pool table cs) s e t.1 t.2)
-        go false k = let y = (listed-eight (ν pool table cs) s e).only j i in rw (out.all, k, y) refl
+        go : (b : Bool) → fits ν out.products ≡ b → reduction pool table cs ≡ refused j
+        go true k = let t = fits-then pool table s out.products e scalar-chain k in clash (sym i ∙ few-enough ν s e t.1 t.2)
+        go false k = let y = (listed-eight ν s e).only j i in rw (out.all, k, y) refl
 
   goods : (s : List ℕ) (e : ℕ) (ps : List (Product ℕ)) (at : ℕ) → Chain (GoodCon pool table 0 s) e (map is_scalar ps) at
-      → Every (λ p. goodProduct (ν pool table cs) (holding pool table) 0 p ≡ true) ps
+      → Every (λ p. goodProduct ν (holding pool table) 0 p ≡ true) ps
   unfolding goodCon
   goods s e [] at c = tt
   goods s e (p ∷ ps) at c = (c.1.0.good, goods s e ps c.0 c.1.1)
 
   -- laid out and eliminated
-  pub all-reduced : Good pool table → (s : List ℕ) (e : ℕ) → Chain (GoodCon pool table 0 s) e cs 0 → (k : Columns) → Listed (ν pool table cs) s e k
+  pub all-reduced : Good pool table → (s : List ℕ) (e : ℕ) → Chain (GoodCon pool table 0 s) e cs 0 → (k : Columns) → Listed ν s e k
       → (n : ℕ) (rows : List Row) → n ≡ length rows → laidOut (names_of (table_of pool table)) (colsIn k) cs ≡ got rows
       → (d : Got (Rows.Reduced ℕ)) → d ≡ eliminate (colsIn k) n rows [] → (d >>= λ d. got (settledBy (colsIn k) d.left d.values)) ≡ reduction pool table cs
   unfolding fitting
@@ -81,14 +84,14 @@ module _ (pool table : List ℕ) (cs : List (Con ℕ)) where
       let o = laid-so (names_of (table_of pool table)) (colsIn k) cs rows laid in
       let ps = o.products in
       let ch = scalar-chain s e chain (names_of (table_of pool table)) (colsIn k) rows laid in
-      let cols : colsIn k ≡ columns (ν pool table cs) ps = listed-columns pool table s ps e ch k l in
-      let fit : fits (ν pool table cs) ps ≡ true = fits-so pool table s ps e ch o.few l.few-variables l.few-others in
+      let cols : colsIn k ≡ columns ν ps = listed-columns pool table s ps e ch k l in
+      let fit : fits ν ps ≡ true = fits-so pool table s ps e ch o.few l.few-variables l.few-others in
       let many : n ≡ length ps = m ∙ ap length o.is ∙ length-map ps _ in
       ap (◌>>= λ d. got (settledBy (colsIn k) d.left d.values)) q
       ∙ ap (λ (c : List (Atom ℕ)). eliminate c n rows [] >>= λ d. got (settledBy c d.left d.values)) cols
-      ∙ ap (λ (x : ℕ). eliminate (columns (ν pool table cs) ps) x rows [] >>= λ d. got (settledBy (columns (ν pool table cs) ps) d.left d.values)) many
-      ∙ ap (λ (x : List Row). eliminate (columns (ν pool table cs) ps) (length ps) x [] >>= λ d. got (settledBy (columns (ν pool table cs) ps) d.left d.values))
+      ∙ ap (λ (x : ℕ). eliminate (columns ν ps) x rows [] >>= λ d. got (settledBy (columns ν ps) d.left d.values)) many
+      ∙ ap (λ (x : List Row). eliminate (columns ν ps) (length ps) x [] >>= λ d. got (settledBy (columns ν ps) d.left d.values))
       (o.is ∙ ap (λ (c : List (Atom ℕ)). paddedRows (names_of (table_of pool table)) c ps) cols)
-      ∙ padded-rows (ν pool table cs) (atom-lawful (ν pool table cs) (numbered-lawful _)) (holding pool table) (held-apart pool table good) ps
+      ∙ padded-rows ν (atom-lawful ν (numbered-lawful _)) (holding pool table) (held-apart pool table good) ps
       (goods s e ps 0 ch) fit 48
       ∙ sym (rw (o.all, fit) refl)

@@ -2,7 +2,7 @@
 use Rattle.std.specs.Prelude.{ℕ}
 use mathlib.Core.List.{List}
 use Rattle.rules.specs.Base.{Got, ◌>>=◌}
-use Rattle.rules.specs.Trees.{Names, Con}
+use Rattle.rules.specs.Trees.{Con}
 use Rattle.records.specs.Good.{Chain, GoodCon, numbers}
 use Rattle.engine_matrix.specs.declared.inner.parts.Columns.{Columns}
 use Rattle.engine_matrix.specs.declared.inner.parts.Machine.{Machine}
@@ -21,9 +21,6 @@ settledOf r = settledIn r.columns r.machine
 abbrev pub SetHeld : List ℕ → List ℕ → List ℕ → ℕ → List (Con ℕ) → Type 0
 SetHeld pool table s e cs = Chain (GoodCon pool table 0 s) e cs 0
 
-module _ (pool table : List ℕ) (cs : List (Con ℕ)) where
-  abbrev pub ν : Names ℕ
-  ν = numbers pool table
-
-  abbrev pub reduction : Got (Settled ℕ)
-  reduction = fitting ν cs >>= λ ps. eliminated ν ps
+-- the set, laid out and eliminated
+abbrev pub reduction : List ℕ → List ℕ → List (Con ℕ) → Got (Settled ℕ)
+reduction pool table cs = fitting (numbers pool table) cs >>= λ ps. eliminated (numbers pool table) ps
