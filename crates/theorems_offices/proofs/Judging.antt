@@ -43,7 +43,10 @@ module _ {N M : Type 0} (ν : Names N) (μ : Names M) (f : N → M) (keeps : Kee
   )
   holds-map bounds (is_scalar p) = nil-map (mapFactor f) p
   holds-map bounds (hasField n s t) =
-      rw ((seen f s).struct-of, then_map (mapStruct f) (mapTy f) (struct_of s) (λ v. fieldIn ν n v.2) (λ v. fieldIn μ (f n) v.2) (λ v. field_in ν μ f keeps n v.2))
+      rw (
+        (seen f s).struct-of,
+        then_map (mapStruct f) (mapTy f) (struct_of s) (λ v. fieldIn ν n v.2) (λ v. fieldIn μ (f n) v.2) (λ v. field_in ν μ f keeps n v.2),
+      )
       (and-map (mapTy f) (and_then (struct_of s) (λ v. fieldIn ν n v.2)) (λ u. means ν u t) (λ u. means μ u (mapTy f t)) (λ u. means-map u t))
 
 module _ {N M : Type 0} (ν : Names N) (μ : Names M) (f : N → M) (keeps : Keeps ν μ f) (l : Limits) where
