@@ -26,7 +26,7 @@ use Rattle.laws.proofs.KeepsGood.{GoodTy, ty_kept}
 use Rattle.laws.proofs.KnownNames.{ty-known}
 use Rattle.laws.proofs.Untouched.{ty_same}
 use Rattle.laws.proofs.Weaker.{ty-weaker}
-use Rattle.schemes_renaming.proofs.Products.{moved, Renames}
+use Rattle.schemes_renaming.proofs.Products.{moved, Renames, moved-good}
 use Rattle.schemes_renaming.proofs.Occurring.{ty-occurs}
 use Rattle.schemes_renaming.proofs.Types.{andLater, Becomes, Twice, ty-twice}
 
@@ -170,7 +170,7 @@ module _ {N : Type 0} (ν : Names N) where
     turn-fair : (i : ℕ) (v : N) (P : Open N → Type 0) → i < q → Fair i P → Fair (suc i) (Becomes P (quantifies ν i v))
     unfolding quantifies
     turn-fair i v P le h = record {
-      known = λ u (o, (p, e)). rw e (kept o p (quantifies ν i v o) refl);
+      known = λ u (o, (p, e)). rw e (moved-good ν held q P (quantifies ν i v) (turn-renames i v P le h) o p (h.known o p));
       below = λ j (o, (p, e)). under j o p e (quantifies ν i v o) refl;
       apart = λ x (o, (p, e)) (w, (k, l)). h.apart x (rw (sym (only-name o (var x) e (λ n z. other-var n z))) at p)
           (rw (sym (only-name w (par x) l (λ n z. other-par n z))) at k);
@@ -184,10 +184,6 @@ module _ {N : Type 0} (ν : Names N) where
         turn (quant j) u e = absurd (some≢none (sym e))
         turn (var x) u e = that (is_yes (ν.same v x)) u e
         turn (par x) u e = that (is_yes (ν.same v x)) u e
-
-        kept : (o : Open N) → P o → (t : Option (Open N)) → quantifies ν i v o ≡ t → goodOpen ν held q (get_or t o) ≡ true
-        kept o p none j = h.known o p
-        kept o p (some u) j = all-good i (v ∷ []) (omega arith) o u (sym (one-turn i v o) ∙ j)
 
         under : (j : ℕ) (o : Open N) → P o → quant j ≡ moved (quantifies ν i v) o → (t : Option (Open N)) → quantifies ν i v o ≡ t → j < suc i
         under j o p e none k = let z : o ≡ quant j = sym (e ∙ ap (λ (s : Option (Open N)). get_or s o) k) in let y = h.below j (rw z at p) in omega arith

@@ -49,6 +49,15 @@ module _ {N : Type 0} (ν : Names N) (held : N → Bool) (q : ℕ) where
     pub new : (o u : Open N) → P o → f o ≡ some u → (u ≡ o) ⊎ ((w : Open N) → P w → ¬ (w ≡ u))
     pub apart : (o w u : Open N) → P o → P w → f o ≡ some u → f w ≡ some u → o ≡ w
 
+  -- a well formed name of P is so under its new name
+  pub moved-good : (P : Open N → Type 0) (f : Open N → Option (Open N)) → Renames P f → (o : Open N) → P o → goodOpen ν held q o ≡ true
+      → goodOpen ν held q (moved f o) ≡ true
+  moved-good P f h o p g = go (f o) refl
+    where
+      go : (t : Option (Open N)) → f o ≡ t → goodOpen ν held q (get_or t o) ≡ true
+      go none i = g
+      go (some u) i = h.good o u p i
+
 -- the factors of a product under their new names, in order
 pub record Moved {N : Type 0} (ν : Names N) (f : Open N → Option (Open N)) (D : Factor N → Type 0) (r : Product N) : Type 0 where
   pub in_order : Sorted ν r
@@ -136,11 +145,7 @@ module _ {N : Type 0} (ν : Names N) (law : Lawful (orderAtom ν)) (held : N →
       not-before x k d i = before_differs law (free x) (free o) (w.earlier (free x ↑ k) (free o ↑ e) d in_head) (ap free i)
 
       moved-held : (x : Open N) (k : Exp) → D (free x ↑ k) → goodOpen ν held q (moved f x) ≡ true
-      moved-held x k d = go (f x) refl
-        where
-          go : (t : Option (Open N)) → f x ≡ t → goodOpen ν held q (get_or t x) ≡ true
-          go none i = (w.ok (free x ↑ k) d).0.0
-          go (some v) i = h.good x v (w.ok (free x ↑ k) d).1 i
+      moved-held x k d = let y = w.ok (free x ↑ k) d in moved-good ν held q P f h x y.1 y.0.0
 
       held-acc : (x : Factor N) → Memᴰ x acc → goodAtom ν held q (atomOf x) ≡ true
       held-acc x m = go (w.only x m)
@@ -345,11 +350,7 @@ module _ {N : Type 0} (ν : Names N) (law : Lawful (orderAtom ν)) (held : N →
         where
           go : (z : Factor N) → GoodFactor ν held q z → OnFactor P z → GoodFactor ν held q (movedFactor f z)
           go (base b ↑ e) a c = a
-          go (free o ↑ e) a c = (named (f o) refl, a.1)
-            where
-              named : (t : Option (Open N)) → f o ≡ t → goodOpen ν held q (get_or t o) ≡ true
-              named none j = a.0
-              named (some u) j = h.good o u c j
+          go (free o ↑ e) a c = (moved-good ν held q P f h o c a.0, a.1)
 
       pub renamed-good : goodProduct ν held q r ≡ true
       renamed-good = product-good ν law held q r (record {
