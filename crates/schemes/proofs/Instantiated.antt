@@ -22,7 +22,7 @@ use Rattle.laws.proofs.NameTable.{held-is}
 use Rattle.names.specs.declared.tables.NameTable.{NameTable}
 use Rattle.laws.proofs.Weaker.{ty-weaker}
 use Rattle.products.proofs.Held.{law}
-use Rattle.schemes_renaming.proofs.Own.{own}
+use Rattle.schemes_renaming.specs.Places.{own}
 use Rattle.schemes_renaming.proofs.PutBack.{Back, put-back, put-back-twice}
 use Rattle.records.specs.Found.{Words32}
 use Rattle.records.specs.Good.{GoodTy, GoodScheme}

@@ -17,7 +17,8 @@ use Rattle.rules.specs.Writing.{head}
 use Rattle.laws.specs.Lists.{All}
 use Rattle.laws.proofs.NameTable.{held-is}
 use Rattle.schemes_renaming.proofs.Again.{there-in, back_is}
-use Rattle.schemes_renaming.proofs.Own.{own, own_is, own-known}
+use Rattle.schemes_renaming.specs.Places.{own}
+use Rattle.schemes_renaming.proofs.Own.{own_is, own-known}
 use Rattle.records.specs.Holds.{Holds}
 use Rattle.replace.specs.Places.{word_of, SaysAt}
 use Rattle.replace.specs.Well.{GoodTy, Lent}

@@ -13,8 +13,9 @@ use Rattle.rules.specs.Trees.{Ty, Open, size}
 use Rattle.rules.specs.Writing.{Rec, words, writeTy, writeBound}
 use Rattle.rules.specs.declared.Refusal.{Refusal}
 use Rattle.rules.specs.declared.Refusal.TheVariants.{WrongCount}
+use Rattle.laws.specs.NameTable.{good-laid}
 use Rattle.laws.proofs.Size.{size-ty}
-use Rattle.schemes_renaming.proofs.Own.{own}
+use Rattle.schemes_renaming.specs.Places.{own}
 use Rattle.records.proofs.Buffers.{stored}
 use Rattle.records.proofs.Held.{held}
 use Rattle.records.specs.Holds.{Holds}
@@ -26,7 +27,8 @@ use Rattle.types.specs.declared.writer.Writer.{Writer}
 use Rattle.types.specs.Written.{Writes}
 use Rattle.types.proofs.Written.{writes-then}
 use Rattle.replace.specs.Leaves.{Leaves}
-use Rattle.replace.proofs.Walks.{on, stopped}
+use Rattle.replace.proofs.Came.{Came}
+use Rattle.replace.proofs.Walks.{stopped}
 use Rattle.replace.specs.Well.{names as numbers, GoodTy, Lent}
 use Rattle.replace.specs.Substitutions.{ALook}
 use Rattle.replace.proofs.Substitutions.{same-look}
@@ -38,29 +40,24 @@ use Rattle.schemes_handed.proofs.Back.{back-lent, own-lent}
 use Rattle.schemes_handed.specs.declared.Handed.{Handed}
 use Rattle.schemes_handed.specs.Tables.{backPlaces, ownPlaces, ownTypes}
 use Rattle.schemes_quantify.proofs.Core.{made-writes}
-use Rattle.schemes_instantiate.specs.Ready.{putType, readType, newBounds, putBackAs, instantiatedAs, Slim, Ready, few}
+use Rattle.schemes_instantiate.specs.Ready.{putType, readType, newBounds, putBackAs, instantiatedAs, Slim, Ready}
 
 -- ══ The tables that were filled ══
 
 module _ (h : Handed) where
+  few : get_or h.names.table.now 0 0 ≤ 256
+  few = (good-laid h.names.good).few
+
   pub back-tables : (p v : List ℕ) → p ≡ backPlaces 0 h.numbers.now (replicate 2560 0) → v ≡ ownTypes (get_or h.names.table.now 0 0) (replicate 1024 0)
       → Lent h.names.pool.now h.names.table.now p v (renamed (back h.numbers.now))
-  back-tables p v a b = rw (a, b) (back-lent h.names.pool.now h.names.table.now (few h) h.numbers.now h.held h.few)
+  back-tables p v a b = rw (a, b) (back-lent h.names.pool.now h.names.table.now few h.numbers.now h.held h.few)
 
   pub own-tables : (p v : List ℕ) → p ≡ ownPlaces (get_or h.names.table.now 0 0) (replicate 256 0)
       → v ≡ ownTypes (get_or h.names.table.now 0 0) (replicate 1024 0)
       → Lent h.names.pool.now h.names.table.now p v (renamed (own (is_held (table_of h.names.pool.now h.names.table.now))))
-  own-tables p v a b = rw (a, b) (own-lent h.names.pool.now h.names.table.now (few h))
+  own-tables p v a b = rw (a, b) (own-lent h.names.pool.now h.names.table.now few)
 
 -- ══ What a walk leaves ══
-
-pub record Came (w w' : Writer) (R : Got (Ty ℕ)) : Type 0 where
-  pub value : Ty ℕ
-  pub is : R ≡ got value
-  pub wrote : Writes w w' (cut (writeTy value))
-
-pub came : {w w' : Writer} {R : Got (Ty ℕ)} → Leaves writeTy w w' (Ok tt) R → Came w w' R
-came h = on h (λ u e k. record { value = u; is = e; wrote = k })
 
 -- whichever proof says what the names become, the first walk puts names back, and the second reads each as itself
 module _ (h : Handed) {p v : List ℕ} (said : ALook h.names.pool.now h.names.table.now p v)
@@ -88,7 +85,7 @@ module _ (h : Handed) (t : Ty ℕ) (bs : List (Open ℕ)) (y : Ready h t bs) whe
   pub first-stopped : {w w' : Writer} {k : Refusal} (d : List ℕ) → Leaves writeTy w w' (Err k) (putType h t) → Made Whole d (Err k)
   first-stopped {k = k} d l = made-refused k (rw (stopped l))
 
-  module _ {w w' : Writer} (c : Came w w' (putType h t)) where
+  module _ {w w' : Writer} (c : Came writeTy w w' (putType h t)) where
     abbrev its : Slim h bs c.value
     its = y.slim c.value c.is
 
@@ -127,7 +124,7 @@ module _ (h : Handed) (t : Ty ℕ) (bs : List (Open ℕ)) (y : Ready h t bs) whe
     second-stopped {k = k} d l = made-refused k (rw (c.is, stopped l))
 
     -- d is the work buffer, when the writer is done with it
-    pub all_made : {v v' v₁ : Writer} {d : List ℕ} → v.at ≡ 0 → 16384 ≤ length v.words.now → Came v v' (readType h c.value)
+    pub all_made : {v v' v₁ : Writer} {d : List ℕ} → v.at ≡ 0 → 16384 ≤ length v.words.now → Came writeTy v v' (readType h c.value)
         → Writes v' v₁ (map writeBound (newBounds h bs)) → d ≡ v₁.words.now → Made Whole d (Ok v₁.at)
     all_made {v} {v'} {v₁} z room b p i =
         let f = its.fits b.value b.is in

@@ -1,13 +1,12 @@
 -- What instantiating is given, and what it makes.
-use Rattle.std.specs.Prelude.{◌≡◌, true, List, ◌++◌, map, ℕ, ◌+◌, ◌≤◌, eqb, length, get_or}
+use Rattle.std.specs.Prelude.{◌≡◌, true, List, ◌++◌, map, ℕ, ◌+◌, ◌≤◌, eqb, length}
 use Rattle.rules.specs.Base.{Got, got, refused, ◌>>=◌, ◌>>◌, need, bounded}
 use Rattle.rules.specs.Names.{table_of, is_held}
 use Rattle.rules.specs.Replacing.{replaceTy}
 use Rattle.rules.specs.Schemes.{Scheme, concrete, scheme, renamed, back}
 use Rattle.rules.specs.Trees.{Ty, Open, size}
 use Rattle.rules.specs.Writing.{Rec, writeTy, writeBound}
-use Rattle.laws.specs.NameTable.{good-laid}
-use Rattle.schemes_renaming.proofs.Own.{own}
+use Rattle.schemes_renaming.specs.Places.{own}
 use Rattle.replace.specs.Well.{names as numbers, GoodTy}
 use Rattle.schemes_handed.specs.Bounds.{allBounds}
 use Rattle.schemes_handed.specs.declared.Handed.{Handed}
@@ -44,9 +43,3 @@ module _ (h : Handed) where
 
   abbrev pub ReadyScheme : Scheme ℕ → Type 0
   ReadyScheme sc = (n : ℕ) (t : Ty ℕ) (bs : List (Open ℕ)) → sc ≡ scheme n t bs → n ≡ length h.numbers.now → Ready t bs
-
--- ══ The tables that were filled ══
-
-module _ (h : Handed) where
-  pub few : get_or h.names.table.now 0 0 ≤ 256
-  few = (good-laid h.names.good).few

@@ -29,10 +29,10 @@ use Rattle.laws.proofs.Weaker.{ty-weaker}
 use Rattle.schemes_renaming.proofs.Products.{moved, moved_none, moved-some, Renames}
 use Rattle.schemes_renaming.proofs.Types.{andLater, Becomes, Twice, ty-twice}
 use Rattle.schemes_renaming.proofs.Occurring.{ty-occurs}
-use Rattle.schemes_renaming.specs.Places.{first_equal, all_of}
+use Rattle.schemes_renaming.specs.Places.{first_equal, all_of, own}
 use Rattle.schemes_renaming.specs.Theorems.{Apart}
 use Rattle.schemes_renaming.proofs.InTurn.{At, first-at, all-at, Fair, all-renames, given-fair, quantify-once}
-use Rattle.schemes_renaming.proofs.Own.{own, own_held, own_same, Named, own-renames, plain-once}
+use Rattle.schemes_renaming.proofs.Own.{own_held, own_same, Named, own-renames, plain-once}
 use Rattle.schemes_renaming.proofs.Sizes.{renamed-deep, plain_size}
 
 module _ {N : Type 0} where

@@ -48,22 +48,17 @@ use Rattle.laws.proofs.Lists.{some≢none}
 use Rattle.laws.specs.GoodProducts.{goodAtom}
 use Rattle.laws.proofs.GoodProducts.{good-product}
 use Rattle.laws.proofs.RuleCases.{single-is}
+use Rattle.schemes_renaming.specs.Places.{own}
 use Rattle.schemes_renaming.proofs.Factors.{same-factors}
 use Rattle.schemes_renaming.proofs.Products.{moved, movedFactor, Renames, product-renamed}
 
 module _ {N : Type 0} (held : N → Bool) where
-  -- a variable that is held is renamed by itself
-  unfoldable pub own : Open N → Option (Open N)
-  own (var x) = only_if (held x) (var x)
-  own (quant i) = none
-  own (par x) = none
-
-  pub own_held : (x : N) → held x ≡ true → own (var x) ≡ some (var x)
+  pub own_held : (x : N) → held x ≡ true → own held (var x) ≡ some (var x)
   unfolding own
   own_held x h = rw h
 
   -- a name that is renamed is held
-  pub own-known : (x : N) {u : Open N} → own (var x) ≡ some u → held x ≡ true
+  pub own-known : (x : N) {u : Open N} → own held (var x) ≡ some u → held x ≡ true
   unfolding own
   own-known x {u} e = go (held x) refl e
     where
@@ -71,7 +66,7 @@ module _ {N : Type 0} (held : N → Bool) where
       go true i k = i
       go false i k = absurd (some≢none (sym k))
 
-  pub own_is : (o u : Open N) → own o ≡ some u → (x : N) × ((o ≡ var x) × (u ≡ o))
+  pub own_is : (o u : Open N) → own held o ≡ some u → (x : N) × ((o ≡ var x) × (u ≡ o))
   unfolding own
   own_is (var x) u e = go (held x) e
     where
@@ -81,10 +76,10 @@ module _ {N : Type 0} (held : N → Bool) where
   own_is (quant i) u e = absurd (some≢none (sym e))
   own_is (par x) u e = absurd (some≢none (sym e))
 
-  pub own_same : (o : Open N) → moved own o ≡ o
-  own_same o = go (own o) refl
+  pub own_same : (o : Open N) → moved (own held) o ≡ o
+  own_same o = go (own held o) refl
     where
-      go : (t : Option (Open N)) → own o ≡ t → get_or t o ≡ o
+      go : (t : Option (Open N)) → own held o ≡ t → get_or t o ≡ o
       go none i = refl
       go (some u) i = let (x, (j, k)) = own_is o u i in k
 

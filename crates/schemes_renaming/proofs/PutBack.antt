@@ -22,7 +22,8 @@ use Rattle.laws.proofs.Untouched.{ty_same}
 use Rattle.laws.proofs.Weaker.{ty-weaker}
 use Rattle.schemes_renaming.proofs.Products.{Renames}
 use Rattle.schemes_renaming.proofs.Occurring.{ty-occurs}
-use Rattle.schemes_renaming.proofs.Own.{own, Named, plain-once}
+use Rattle.schemes_renaming.specs.Places.{own}
+use Rattle.schemes_renaming.proofs.Own.{Named, plain-once}
 use Rattle.schemes_renaming.proofs.Sizes.{renamed-deep, plain_size}
 use Rattle.schemes_renaming.proofs.Again.{there-in, back_is}
 use Rattle.schemes_renaming.proofs.Shorter.{ty-short, back-away}
