@@ -266,7 +266,8 @@ uint32_t shupkelen_solve(const uint8_t *pool, size_t pool_len, const uint32_t *t
 
 /* Solves a set, and answers only what the judge confirms over the same set: what is answered makes every constraint of the set true, whatever the set. The call
  * to use where somebody relies on an answer. It writes and says what shupkelen_solve does, and refuses as it does; then, of what solving accepts, with 7 or 8
- * where the judge meets them, and with 11 for its no. result is then as before; the rounds are those of solving. */
+ * where the judge meets them, and with 11 for its no. result is then as before; the rounds are those of solving. Two structs of one name and the same arguments
+ * are the same type, whatever fields they have. */
 uint32_t shupkelen_confirm(const uint8_t *pool, size_t pool_len, const uint32_t *table, size_t table_len, const uint32_t *set, size_t set_len, uint32_t *result,
     size_t result_len, uint32_t *work, size_t work_len, uint32_t *answer, size_t answer_len);
 

@@ -245,7 +245,8 @@ extern "C" {
     ) -> u32;
     /// Solves a set, and answers only what the judge confirms over the same set: what is answered makes every constraint of the set true, whatever the set. The
     /// call to use where somebody relies on an answer. It writes and says what `shupkelen_solve` does, and refuses as it does; then, of what solving accepts,
-    /// with 7 or 8 where the judge meets them, and with 11 for its no. `result` is then as before; the rounds are those of solving.
+    /// with 7 or 8 where the judge meets them, and with 11 for its no. `result` is then as before; the rounds are those of solving. Two structs of one name and
+    /// the same arguments are the same type, whatever fields they have.
     pub fn shupkelen_confirm(
         pool: *const u8,
         pool_len: usize,

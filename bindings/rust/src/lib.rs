@@ -631,6 +631,7 @@ impl Solver {
     }
 
     /// Solves a set and lets the judge confirm the answer: what is answered makes every constraint true, with all bindings put in at once, in exact arithmetic.
+    /// Two structs of one name and the same arguments are the same type there, whatever fields they have.
     ///
     /// ```
     /// use shupkelen::{NameTable, Refusal, Solver};

@@ -102,7 +102,8 @@ pub extern "C" fn shupkelen_solve(
 
 /// Solves a set, and answers only what the judge confirms over the same set: what is answered makes every constraint of the set true, whatever the set. The
 /// call to use where somebody relies on an answer. It writes and says what `shupkelen_solve` does, and refuses as it does; then, of what solving accepts,
-/// with 7 or 8 where the judge meets them, and with 11 for its no. `res` is then as before; the rounds are those of solving.
+/// with 7 or 8 where the judge meets them, and with 11 for its no. `res` is then as before; the rounds are those of solving. Two structs of one name and the
+/// same arguments are the same type, whatever fields they have.
 #[unsafe(no_mangle)]
 pub extern "C" fn shupkelen_confirm(
     pool: &[u8],
