@@ -122,7 +122,8 @@ module _ (pool table set text result work : List ℕ) (formed : setCall pool tab
   unfolding writeTextCall listing resultAfter readTextCall sheetGiven tableKept workAfter
   back-again = record {
     bytes = setText (namesIn (table_of pool table)) given.cs;
-    constraints = length given.cs;
+    cons = given.cs;
+    given = given.given;
     written = rw written-text;
     short = omega (arith, set-fits good given.cs cons.good, many);
     again = rw (all-lent, good.good, read_again) (rw (many, cons.same));

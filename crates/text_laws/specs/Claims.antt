@@ -4,20 +4,21 @@ use mathlib.Core.List.{List, [], ◌∷◌, ◌++◌}
 use Rattle.std.proofs.Math.ListN.{length}
 use Rattle.rules.specs.Base.{got}
 use Rattle.rules.specs.Trees.{Con}
-use Rattle.rules.specs.Names.{Bytes}
-use Rattle.rules.specs.Calls.{over}
+use Rattle.rules.specs.Names.{Bytes, table_of}
+use Rattle.rules.specs.Calls.{over, setGiven}
 use Rattle.rules.specs.Grammar.{lines_of}
 use Rattle.rules.specs.TextReading.{Sofar, refusedAt, lineRead, sheet, refusedIn, sheetRead, wasRead, TextRead, readTextCall}
 use Rattle.rules.specs.TextWriting.{writeTextCall}
 
--- a set as a text, and that text read again
+-- a set as a text, and that text read again: as many records and constraints as the set has
 pub record BackAgain (pool table set text result work : List ℕ) : Type 0 where
   pub bytes : Bytes
-  pub constraints : ℕ
+  pub cons : List (Con ℕ)
+  pub given : setGiven (table_of pool table) set ≡ got cons
   pub written : writeTextCall pool table set text ≡ record { answer = got (length bytes); result = over bytes text }
   pub short : length bytes ≤ length set / 4 * 173
   pub again : readTextCall pool table bytes result work
-      ≡ record { answer = wasRead (length set / 4) constraints 0; pool = pool; table = table; result = over set result; work = replicate (length work) 0 }
+      ≡ record { answer = wasRead (length set / 4) (length cons) 0; pool = pool; table = table; result = over set result; work = replicate (length work) 0 }
 
 -- what a refusal leaves: pool, table and result as they were
 pub record Unchanged (pool table result : List ℕ) (r : TextRead) : Type 0 where
