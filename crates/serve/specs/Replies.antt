@@ -15,8 +15,8 @@ flagOf is n = pick is n 0
 
 -- 1: the result buffer is as before behind the answer; 2: the work buffer is all zero; 4: it is as before
 abbrev pub flags_of : ℕ → ℕ → ℕ → List ℕ → List ℕ → ℕ
-flags_of words resultwas workwas result work =
-    flagOf (same (drop words result) resultwas) 1 + flagOf (same (drop 0 work) 0) 2 + flagOf (same (drop 0 work) workwas) 4
+flags_of words result_was work_was result work =
+    flagOf (same (drop words result) result_was) 1 + flagOf (same (drop 0 work) 0) 2 + flagOf (same (drop 0 work) work_was) 4
 
 -- an answer: its length in bytes, what is told, the flags, how many words are the answer's, and the words behind
 abbrev pub answerOf : Told → ℕ → List ℕ → List ℕ
@@ -27,7 +27,7 @@ abbrev pub behindOf : Header → ℕ → List ℕ → List ℕ → List ℕ
 behindOf h n result work = (take n result ++ replicate (n - length result) 0) ++ pick (eqb h.show 0) [] (result ++ work)
 
 abbrev pub saidBy : Header → Served → List ℕ
-saidBy h s = answerOf s.told (flags_of s.told.words h.resultwas h.workwas s.result s.work) (behindOf h s.told.words s.result s.work)
+saidBy h s = answerOf s.told (flags_of s.told.words h.result_was h.work_was s.result s.work) (behindOf h s.told.words s.result s.work)
 
 abbrev pub askedBy : Header → Asked
 askedBy h = record { x = h.x; y = h.y }

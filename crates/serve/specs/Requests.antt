@@ -15,9 +15,9 @@ head_of s = record {
   call = word_at s 4;
   x = word_at s 8;
   y = word_at s 12;
-  resultwas = word_at s 16;
+  result_was = word_at s 16;
   result = word_at s 20;
-  workwas = word_at s 24;
+  work_was = word_at s 24;
   work = word_at s 28;
   pool = word_at s 32;
   table = word_at s 36;
@@ -112,8 +112,8 @@ lendingOf h body = record {
   b = words_in (drop (bAt h) body) h.b;
   c = words_in (drop (cAt h) body) h.c;
   d = words_in (drop (dAt h) body) h.d;
-  result = replicate h.result h.resultwas;
-  work = replicate h.work h.workwas;
+  result = replicate h.result h.result_was;
+  work = replicate h.work h.work_was;
 }
 
 -- the same of the program's lists

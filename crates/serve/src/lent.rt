@@ -85,8 +85,8 @@ impl Lent {
             b: words_from(alloc, body, b, h.b)?,
             c: words_from(alloc, body, c, h.c)?,
             d: words_from(alloc, body, d, h.d)?,
-            result: alike(alloc, h.resultwas, h.result)?,
-            work: alike(alloc, h.workwas, h.work)?,
+            result: alike(alloc, h.result_was, h.result)?,
+            work: alike(alloc, h.work_was, h.work)?,
         })
     }
 }

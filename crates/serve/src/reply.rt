@@ -36,11 +36,11 @@ fn flag(is: bool, number: u32) -> u32
 
 // 1: the result buffer is as before behind the answer. 2: the work buffer is all zero. 4: it is as before.
 fn flags(t: &Told, h: Header, res: &[u32], work: &[u32]) -> u32
-    ensures { result ≡ flags_of t.now.words h.resultwas h.workwas res.now work.now }
+    ensures { result ≡ flags_of t.now.words h.result_was h.work_was res.now work.now }
 {
-    let rest = flag(all_from(res, t.words, h.resultwas), 1);
+    let rest = flag(all_from(res, t.words, h.result_was), 1);
     let zero = flag(all_from(work, 0, 0), 2);
-    let same = flag(all_from(work, 0, h.workwas), 4);
+    let same = flag(all_from(work, 0, h.work_was), 4);
     rest + zero + same
 }
 
