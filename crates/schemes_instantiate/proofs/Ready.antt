@@ -5,7 +5,7 @@ use Rattle.std.proofs.lemmas.List.{length-map}
 use Rattle.std.proofs.lemmas.List.Edits.{sets}
 use Rattle.std.proofs.Math.Seq.{length-sets}
 use lib.ListN.{length-replicate}
-use Rattle.rules.specs.Base.{Got, got, refused, bounded}
+use Rattle.rules.specs.Base.{Got, refused, bounded}
 use Rattle.rules.specs.Names.{table_of, is_held}
 use Rattle.rules.specs.Replacing.{replaceTy}
 use Rattle.rules.specs.Schemes.{scheme, renamed, back}
