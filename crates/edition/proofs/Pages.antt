@@ -5,7 +5,6 @@ use Rattle.rules.specs.Base.{got}
 use Rattle.rules.specs.Names.{Bytes, Table, lentTable}
 use Rattle.rules.specs.Reports.{findingOf, Page, constraintsIn, reportText, pageText, shownWhere, pageShown, isAccepted}
 use Rattle.rules.specs.TextWriting.{namesIn}
-use Rattle.rules.specs.Writing.{words}
 use Rattle.rules.specs.declared.Shown.{Shown}
 use Rattle.laws.specs.NameTable.{Good}
 use Rattle.edition.specs.declared.model.Content.{Content}
