@@ -1,13 +1,12 @@
 -- What is kept of a text that is read, and what is said from it.
-use Rattle.std.specs.Prelude.{◌≡◌, ◌↔◌, refl, Bool, true, false, IsTrue, List, ℕ, replicate, Result, Ok, Err, Vec}
+use Rattle.std.specs.Prelude.{◌≡◌, ◌↔◌, refl, Bool, true, false, IsTrue, List, ℕ, replicate, Ok, Err, Vec}
 use Rattle.std.proofs.Common.{sym, ap, ◌∙◌, arith}
 use Rattle.std.proofs.lemmas.List.{length-replicate}
 use Rattle.std.specs.declared.alloc.Global.{Global}
-use Rattle.rules.specs.Base.{Got, got, refused, collect}
+use Rattle.rules.specs.Base.{Got, got, refused}
 use Rattle.sha2.specs.Sha256.{sha256}
 use Rattle.rules.specs.Names.{Bytes, table_of, tableGood, lengthsGood, names_of, distinct, cut, sameBytes}
 use Rattle.rules.specs.TextReading.{Sheet, sheet, refusedIn, sheetRead}
-use Rattle.rules.specs.Writing.{words, writeCon}
 use Rattle.laws.specs.NameTable.{Good, same-yes}
 use Rattle.laws.proofs.NameTable.{same-no, same-is}
 use Rattle.laws.proofs.Lists.{true≢false}

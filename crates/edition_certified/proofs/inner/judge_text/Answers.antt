@@ -1,4 +1,4 @@
-use Rattle.std.proofs.Common.{◌≡◌, ◌∙◌}
+use Rattle.std.proofs.Common.{◌∙◌}
 use Rattle.std.proofs.lemmas.Result.{IfOk-weaker}
 use Rattle.edition_certified.proofs.Judged.{begins-good, no-pool, no-table, kept-good, text-said, text-true, text-stopped}
 use Rattle.edition_certified.proofs.inner.judge_text.Goals as goal
