@@ -1,64 +1,51 @@
 -- Examples on words, over the names of rules' Examples: each part of the statement is needed.
-use Rattle.std.specs.Prelude.{◌≡◌, refl, Bool, false, List, [], ◌∷◌, ℕ, zero, suc, ℤ, pos, negsuc, nat_abs, ◌+ℤ◌, ◌*ℤ◌}
+use Rattle.std.specs.Prelude.{◌≡◌, refl, false, List, [], ◌∷◌, ℕ, ℤ, pos, negsuc, nat_abs, ◌+ℤ◌, ◌*ℤ◌}
 use Rattle.std.proofs.Common.{◌∙◌, sym, subst, arith}
 use mathlib.Core.List.Memᴰ
 use Rattle.std.proofs.Math.Nat.{eq-one_of_dvd-one}
 use Rattle.std.proofs.Math.Bridge.{le_by_compare, IsLe}
 use Rattle.rules.specs.Base.{got, bounded, all}
 use Rattle.rules.specs.Exponents.{Exp, frac, nought, one, lowest, plus}
-use Rattle.rules.specs.Trees.{Names, var, par, free, base, ◌↑◌, opened, dim, basic, boolean, Con, equal, isDim, is_scalar, Binding, ◌≔◌}
-use Rattle.rules.specs.Names.{table_of, numbersOf, is_held}
+use Rattle.rules.specs.Trees.{var, par, free, base, ◌↑◌, opened, dim, basic, boolean, Con, equal, isDim, is_scalar, Binding, ◌≔◌}
+use Rattle.rules.specs.Names.{table_of}
 use Rattle.rules.specs.Writing.{rec}
 use Rattle.rules.specs.Lengths.{sizedWords, counting}
 use Rattle.rules.specs.Solving.{accepted, remaining, solve}
 use Rattle.rules.specs.Calls.{setGiven, solved, unsolved, refusedAfter, solveCall}
 use Rattle.rules.specs.Rules.{rules}
 use Rattle.rules.specs.Examples.{x, y, z, L, pool, table, result, work}
-use Rattle.rules.specs.Choices.{
-  Fixed,
-  baseDimension,
-  Part,
-  ◌to◌,
-  Dimension,
-  Choice,
-  Rational,
-  power,
-  scaled,
-  chosenFor,
-  comesTo,
-  dimensional,
-  MakesTrue,
-  MakesAllTrue,
-  Choosing,
-  completed,
-  isSide,
-  wide,
-  sideComesTo,
-  MakesWideTrue,
-  MakesAllWideTrue,
-  ChoosingWide,
-  completedWide,
-}
+use Rattle.rules.specs.Choices.{Fixed, baseDimension, ◌to◌, Dimension, Choice, Rational, power, scaled, chosenFor, comesTo, dimensional, MakesTrue, MakesAllTrue, Choosing, completed, isSide, wide, sideComesTo, MakesWideTrue, MakesAllWideTrue, ChoosingWide, completedWide}
 use Rattle.laws.proofs.Gcd.{is-gcd}
 use Rattle.laws.proofs.Fractions.{coprime-terms}
 use Rattle.laws.specs.Lists.{in_head, Every}
 use Rattle.laws.specs.ByteOrder.{numbered-lawful}
 use Rattle.laws.specs.NameTable.{Good}
 use Rattle.theorems_completeness.specs.Claims.{DimensionSet, AllChoices, Complete, WideSet, WideComplete}
-use Rattle.theorems_completeness.specs.Examples.{k9, k9-words}
+use Rattle.theorems_completeness.specs.Examples.{
+  same,
+  names,
+  held,
+  k9,
+  k9-words,
+  k13,
+  k13-words,
+  two-things,
+  two-things-words,
+  open-two,
+  open-two-words,
+  open-two-bindings,
+  y-is-L,
+  k5,
+  k5-bindings,
+  Whole,
+  WholePart,
+  k14,
+  k14-words,
+}
 use Rattle.theorems_completeness.specs.Theorems.{Within, MakesWideOnesTrue}
 use Rattle.theorems_completeness.proofs.Completeness.{all-choices, refused-then-none, wide-decided, conflict}
 use Rattle.laws.specs.Given.{held-apart}
 use Rattle.theorems_completeness.proofs.Chosen.{at_part}
-
-abbrev same : Discrete ℕ
-same = (numbersOf (table_of pool table)).same
-
-abbrev names : Names ℕ
-names = numbersOf (table_of pool table)
-
-abbrev held : ℕ → Bool
-held = is_held (table_of pool table)
 
 good-table : Good pool table
 unfolding rules pool table IsLe
@@ -70,17 +57,11 @@ told cs bs k given accepts = all-choices names held (numbered-lawful _) (held-ap
 
 -- ══ K13, equal-scalar L: 5, and no choice makes it true ══
 
-abbrev k13 : List (Con ℕ)
-k13 = is_scalar (base L ↑ one ∷ []) ∷ []
-
-abbrev k13-words : List ℕ
-k13-words = sizedWords (rec 22 0 0 0 ∷ rec 3 1 0 0 ∷ rec 13 L 1 1 ∷ [])
-
 k13-read : setGiven (table_of pool table) k13-words ≡ got k13
 unfolding rules counting pool table
 k13-read = refl
 
-k13-answer : (solveCall pool table k13-words result work).answer ≡ unsolved 3 0
+pub k13-answer : (solveCall pool table k13-words result work).answer ≡ unsolved 3 0
 unfolding rules counting pool table result work
 k13-answer = refl
 
@@ -90,17 +71,11 @@ k13-none = refused-then-none pool table k13-words result work k13 k13-read refl 
 
 -- ══ The parameter L = the base dimension L: two things of one name, so 5, and no choice ══
 
-abbrev two-things : List (Con ℕ)
-two-things = equal (dim (free (par L) ↑ one ∷ [])) (dim (base L ↑ one ∷ [])) ∷ []
-
-abbrev two-things-words : List ℕ
-two-things-words = sizedWords (rec 20 0 0 0 ∷ rec 3 1 0 0 ∷ rec 12 L 1 1 ∷ rec 3 1 0 0 ∷ rec 13 L 1 1 ∷ [])
-
 two-things-read : setGiven (table_of pool table) two-things-words ≡ got two-things
 unfolding rules counting pool table
 two-things-read = refl
 
-two-things-answer : (solveCall pool table two-things-words result work).answer ≡ unsolved 4 1
+pub two-things-answer : (solveCall pool table two-things-words result work).answer ≡ unsolved 4 1
 unfolding rules counting pool table result work
 two-things-answer = refl
 
@@ -110,16 +85,6 @@ two-things-none = refused-then-none pool table two-things-words result work two-
 
 -- ══ Equal-scalar x y z: y and z are open, and two choices of them give two choices that differ ══
 
-abbrev open-two : List (Con ℕ)
-open-two = is_scalar (free (var x) ↑ one ∷ free (var y) ↑ one ∷ free (var z) ↑ one ∷ []) ∷ []
-
-abbrev open-two-words : List ℕ
-open-two-words = sizedWords (rec 22 0 0 0 ∷ rec 3 3 0 0 ∷ rec 11 x 1 1 ∷ rec 11 y 1 1 ∷ rec 11 z 1 1 ∷ [])
-
--- x is bound to y^-1 z^-1
-abbrev open-two-bindings : List (Binding ℕ)
-open-two-bindings = x ≔ dim (free (var y) ↑ frac (negsuc 0) 1 ∷ free (var z) ↑ frac (negsuc 0) 1 ∷ []) ∷ []
-
 open-two-read : setGiven (table_of pool table) open-two-words ≡ got open-two
 unfolding rules counting pool table
 open-two-read = refl
@@ -128,7 +93,7 @@ open-two-answer : (solveCall pool table open-two-words result work).answer ≡ s
 unfolding rules counting pool table result work
 open-two-answer = refl
 
-open-two-solved : solve names bounded open-two ≡ accepted open-two-bindings [] 1
+pub open-two-solved : solve names bounded open-two ≡ accepted open-two-bindings [] 1
 unfolding rules pool table
 open-two-solved = refl
 
@@ -139,12 +104,6 @@ open-two-given = record { well-formed = refl; dimensions = refl; few = omega ari
 -- whatever is chosen for y and z, it is completed to one that makes it true
 pub any-completes : (c : Choice ℕ) → Rational c → MakesAllTrue same (completed same open-two-bindings c) open-two
 any-completes c r = ((told open-two open-two-bindings 1 open-two-given open-two-solved).completes c r).1
-
--- y is L, everything else nothing
-pub y-is-L : Choice ℕ
-y-is-L zero = []
-y-is-L (suc zero) = baseDimension L to one ∷ []
-y-is-L (suc (suc n)) = []
 
 -- x comes to nothing, or to L^-1
 pub choices-differ : (power same (baseDimension L) (completed same open-two-bindings (λ v. []) x) ≡ nought)
@@ -160,25 +119,13 @@ not-any f = let e : one ≡ nought = f (is_scalar (free (var x) ↑ one ∷ free
 
 -- ══ K5, equal-scalar x^2 L^-3: x is L^(3/2), and whole powers alone wouldn't do ══
 
-abbrev k5 : List (Con ℕ)
-k5 = is_scalar (free (var x) ↑ frac (pos 2) 1 ∷ base L ↑ frac (negsuc 2) 1 ∷ []) ∷ []
-
-abbrev k5-bindings : List (Binding ℕ)
-k5-bindings = x ≔ dim (base L ↑ frac (pos 3) 2 ∷ []) ∷ []
-
-k5-solved : solve names bounded k5 ≡ accepted k5-bindings [] 1
+pub k5-solved : solve names bounded k5 ≡ accepted k5-bindings [] 1
 unfolding rules pool table
 k5-solved = refl
 
 k5-given : DimensionSet names held k5
 unfolding rules pool table dimensional
 k5-given = record { well-formed = refl; dimensions = refl; few = omega arith }
-
-abbrev pub Whole : Exp → Type 0
-Whole e = (n : ℤ) × (e ≡ frac n 1)
-
-abbrev pub WholePart : Part ℕ → Type 0
-WholePart (u to e) = Whole e
 
 whole_sum : (a b : Exp) → Whole a → Whole b → Whole (plus a b)
 unfolding plus
@@ -203,17 +150,11 @@ whole-none c r w f =
 
 -- ══ K14, equal-scalar x^(1/2) y^2147483647: 7, though there is a choice ══
 
-abbrev k14 : List (Con ℕ)
-k14 = is_scalar (free (var x) ↑ frac (pos 1) 2 ∷ free (var y) ↑ frac (pos 2_147_483_647) 1 ∷ []) ∷ []
-
-abbrev k14-words : List ℕ
-k14-words = sizedWords (rec 22 0 0 0 ∷ rec 3 2 0 0 ∷ rec 11 x 1 2 ∷ rec 11 y 2_147_483_647 1 ∷ [])
-
 k14-read : setGiven (table_of pool table) k14-words ≡ got k14
 unfolding rules counting pool table
 k14-read = refl
 
-k14-answer : (solveCall pool table k14-words result work).answer ≡ refusedAfter 7 0
+pub k14-answer : (solveCall pool table k14-words result work).answer ≡ refusedAfter 7 0
 unfolding rules counting pool table result work
 k14-answer = refl
 
@@ -227,11 +168,6 @@ k14-choice = record {
 }
 
 -- ══ Outside: not every side is a dimension ══
-
--- x y = boolean
-pub outside : all dimensional (equal (dim (free (var x) ↑ one ∷ free (var y) ↑ one ∷ [])) (basic boolean) ∷ []) ≡ false
-unfolding dimensional all
-outside = refl
 
 -- K9, dimension x = boolean: accepted, and no choice of a dimension makes it true; so the statement is about dimensions alone
 pub k9-read : setGiven (table_of pool table) k9-words ≡ got k9

@@ -1,17 +1,50 @@
 -- Refused only when there is no choice: for sets in which every constraint is equal-scalar or an equality of two dimensions, 5 means that no choice
 -- of dimensions makes all true, and an accepted answer gives all choices that do. The functions of src promise these statements; the words stand in
 -- Claims and in rules' Choices, the proofs in proofs/.
-use Rattle.std.specs.Prelude.{◌≡◌, Bool, true, ◌⊎◌, ℕ}
+use Rattle.std.specs.Prelude.{◌≡◌, Bool, true, ◌⊎◌, [], ℕ, negsuc}
 use mathlib.Core.List.{List, Memᴰ}
 use Rattle.rules.specs.Base.{got, bounded, all}
+use Rattle.rules.specs.Exponents.{frac, nought}
 use Rattle.rules.specs.Trees.{Names, Con, Binding}
 use Rattle.rules.specs.Names.{table_of, numbersOf}
 use Rattle.rules.specs.Solving.{accepted, stopped, solve}
-use Rattle.rules.specs.Calls.{setGiven, solved, unsolved, solveCall}
-use Rattle.rules.specs.Examples.{pool, table, result, work}
-use Rattle.rules.specs.Choices.{Choice, Rational, dimensional, Choosing, wide, MakesTrue, MakesWideTrue, MakesAllWideTrue, ChoosingWide}
+use Rattle.rules.specs.Calls.{setGiven, solved, unsolved, refusedAfter, solveCall}
+use Rattle.rules.specs.Examples.{x, L, pool, table, result, work}
+use Rattle.rules.specs.Choices.{
+  Choice,
+  Rational,
+  dimensional,
+  Choosing,
+  wide,
+  MakesTrue,
+  MakesAllTrue,
+  MakesWideTrue,
+  MakesAllWideTrue,
+  ChoosingWide,
+  baseDimension,
+  power,
+  completed,
+}
+use Rattle.laws.specs.Lists.{Every}
 use Rattle.laws.specs.Order.{Lawful, Tells}
-use Rattle.theorems_completeness.specs.Examples.{k9, k9-words}
+use Rattle.theorems_completeness.specs.Examples.{
+  same,
+  names,
+  k9,
+  k9-words,
+  k13,
+  k13-words,
+  two-things,
+  two-things-words,
+  open-two,
+  open-two-bindings,
+  y-is-L,
+  k5,
+  k5-bindings,
+  WholePart,
+  k14,
+  k14-words,
+}
 use Rattle.theorems_completeness.specs.Claims.{◌⇔◌, DimensionSet, AllChoices, Five, Stopped, Complete, WideSet, AllWideChoices, WideComplete}
 
 -- ══ On trees: names whose order, by bytes, is lawful and tells the held ones apart ══
@@ -45,6 +78,29 @@ RefusedThenNone = (pool table set result work : List ℕ) (cs : List (Con ℕ)) 
 pub record DimensionsNeeded : Type 0 where
   pub read : setGiven (table_of pool table) k9-words ≡ got k9
   pub not-complete : ¬ (Complete pool table k9-words result work k9)
+
+-- nor can less be said of dimension lines: what their answers are, and what choices they have
+pub record EachPartNeeded : Type 0 where
+  -- K13, equal-scalar L: refused with 5, and there is no choice
+  pub k13-answer : (solveCall pool table k13-words result work).answer ≡ unsolved 3 0
+  pub k13-none : ¬ (Choosing same k13)
+  -- the parameter L = the base dimension L: no choice either, since they are two things
+  pub two-things-answer : (solveCall pool table two-things-words result work).answer ≡ unsolved 4 1
+  pub two-things-none : ¬ (Choosing same two-things)
+  -- equal-scalar x y z: x is bound to y^-1 z^-1, and whatever is chosen is completed to a choice that makes it true
+  pub open-two-solved : solve names bounded open-two ≡ accepted open-two-bindings [] 1
+  pub any-completes : (c : Choice ℕ) → Rational c → MakesAllTrue same (completed same open-two-bindings c) open-two
+  -- two choices of y and z give two that differ: x comes to nothing, or to L^-1
+  pub choices-differ : (power same (baseDimension L) (completed same open-two-bindings (λ v. []) x) ≡ nought)
+      × (power same (baseDimension L) (completed same open-two-bindings y-is-L x) ≡ frac (negsuc 0) 1)
+  -- and x isn't free to choose
+  pub not-any : ¬ (MakesAllTrue same y-is-L open-two)
+  -- K5, equal-scalar x^2 L^-3: x is L^(3/2), and with whole powers there would be no choice
+  pub k5-solved : solve names bounded k5 ≡ accepted k5-bindings [] 1
+  pub whole-none : (c : Choice ℕ) → Rational c → ((v : ℕ) → Every WholePart (c v)) → ¬ (MakesAllTrue same c k5)
+  -- K14, equal-scalar x^(1/2) y^2147483647: refused with 7, and there is a choice all the same
+  pub k14-answer : (solveCall pool table k14-words result work).answer ≡ refusedAfter 7 0
+  pub k14-choice : Choosing same k14
 
 -- ══ Wide sets: sides may be variables, and is-dimension may stand in them ══
 

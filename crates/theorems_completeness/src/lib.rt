@@ -6,6 +6,7 @@ ghost use Rattle.theorems_completeness.specs.Theorems.{
   CallComplete,
   RefusedThenNone,
   DimensionsNeeded,
+  EachPartNeeded,
   WideSetsDecided,
   WideCallComplete,
   WideIsWider,
@@ -35,6 +36,12 @@ pub fn refused_then_none()
 /// Of sets with other constraints that is false: of K9, dimension x = boolean (`dimensions-needed`).
 pub fn dimensions_are_needed()
     ensures { DimensionsNeeded }
+{}
+
+/// Of dimension lines less can't be said: examples without a choice, with many, with no choice of whole powers, and one that is refused with 7 though it has
+/// a choice (`k13-none`, `two-things-none`, `any-completes`, `choices-differ`, `not-any`, `whole-none`, `k14-choice`).
+pub fn each_part_is_needed()
+    ensures { EachPartNeeded }
 {}
 
 /// The same of wide sets: the sides of an equality may be variables, and is-dimension of a dimension or a variable may stand in the set
