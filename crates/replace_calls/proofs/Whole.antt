@@ -1,10 +1,11 @@
 -- The calls past the check of 10, and whole.
-use Rattle.std.specs.Prelude.{Result, ◌≡◌, List, ◌++◌, ℕ, ◌+◌, ◌/◌, ◌≤◌, length, get_or, replicate}
+use Rattle.std.specs.Prelude.{Result, Ok, ◌≡◌, List, ◌++◌, ℕ, ◌+◌, ◌/◌, ◌≤◌, length, get_or, replicate}
 use Rattle.std.proofs.Common.{sym, ap, subst, ◌∙◌}
-use Rattle.rules.specs.Base.{Got, got, refused, ◌>>=◌, collect}
-use Rattle.rules.specs.Trees.{Ty, Con, Binding, opens, opensCon, size}
+use Rattle.rules.specs.Base.{Got, got, refused, ◌>>=◌, ◌>>◌, need, collect}
+use Rattle.rules.specs.Contents.{unmixed}
+use Rattle.rules.specs.Trees.{Open, Ty, Con, Binding, opens, opensCon, size}
 use Rattle.rules.specs.Calls.{typeGiven, setGiven, bindingsGiven, opensBinding, lent, resultAfter, replacedType, replacedSet, replaceTypeCall, replaceSetCall}
-use Rattle.rules.specs.Names.{table_of}
+use Rattle.rules.specs.Names.{Table, table_of}
 use Rattle.rules.specs.Writing.{Rec, words}
 use Rattle.rules.specs.declared.Refusal.{Refusal}
 use Rattle.laws.proofs.Lists.{every_append}
@@ -21,6 +22,10 @@ use Rattle.queries.specs.Scans.{opensIn}
 use Rattle.queries.proofs.ScanLaws.{type-opens}
 use Rattle.records_buffers.proofs.Handed.{as_written, unwritten}
 use Rattle.records_buffers.specs.Told.{Made, handed}
+use Rattle.types.specs.Given.{list_over}
+use Rattle.types.proofs.Tested.{given}
+use Rattle.replace_calls.specs.Entry.{both_over}
+use Rattle.replace_calls.proofs.Checks.{asked, asked-apart}
 
 pub as-made : {m m' : Got (List Rec)} {w : List ℕ} {r : Result ℕ Refusal} → m ≡ m' → Made m' w r → Made m w r
 as-made {m} {m'} {w} {r} e h = subst (λ (x : Got (List Rec)). Made x w r) (sym e) h
@@ -73,6 +78,18 @@ module _ (n : NameTable) (ws binds : List ℕ) (w : Words32 ws) (v : Words32 bin
 
   pub set-both : (cs : List (Con ℕ)) → setGiven (table_of n.pool.now n.table.now) ws ≡ got cs → Both
   set-both cs e = both-small (constraints-small n ws w cs e)
+
+-- what both lists were read as, and the check of 4 on their open names: with what comes behind it, it is what the call asks
+module _ {A : Type 0} (first : Table → List ℕ → Got A) (os : A → List (Open ℕ)) (make : Table → A → List (Binding ℕ) → Got (List Rec))
+    (opened : (n : NameTable) (ws : List ℕ) → Words32 ws → (a : A) → first (table_of n.pool.now n.table.now) ws ≡ got a
+    → opensIn ws 0 (length ws / 4) ≡ os a) where
+  pub made-apart : {names : Result NameTable Refusal} {n : NameTable} {ws binds : List ℕ} {a : A} {bs : List (Binding ℕ)} → names ≡ Ok n
+      → Words32 ws → Words32 binds → got a ≡ list_over first names ws → got bs ≡ list_over bindingsGiven names binds → (r : Got (Unit {0}))
+      → r ≡ need (unmixed (numbers n.pool.now n.table.now) (opensIn ws 0 (length ws / 4) ++ opensIn binds 0 (length binds / 4))) 4
+      → both_over names (asked first os make) ws binds ≡ (r >> make (table_of n.pool.now n.table.now) a bs)
+  made-apart {names} {n} {ws} {binds} {a} {bs} i w v e g r h =
+      asked-apart first os make ws binds names n i a e bs g _ _ (opened n ws w a (given ws first names n i a e).1)
+      (bindings-opened n binds v bs (given binds bindingsGiven names n i bs g).1) r h
 
 -- ══ The calls ══
 

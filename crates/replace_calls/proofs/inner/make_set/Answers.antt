@@ -13,8 +13,8 @@ use Rattle.types.specs.Given.{constraints_in}
 use Rattle.types.proofs.Tested.{given, same_table}
 use Rattle.records_buffers.proofs.Handed.{made-refused}
 use Rattle.replace_calls.specs.Made.{madeSet}
-use Rattle.replace_calls.proofs.Checks.{second-too-long, first-stops, second-stops, asked-apart}
-use Rattle.replace_calls.proofs.Whole.{as-made, set-opened, bindings-opened, set-both}
+use Rattle.replace_calls.proofs.Checks.{second-too-long, first-stops, second-stops}
+use Rattle.replace_calls.proofs.Whole.{as-made, made-apart, set-opened, set-both}
 use Rattle.replace_calls.proofs.inner.make_set.Goals as goal
 
 pub returns-in_err-short : goal.returns-in_err-short
@@ -52,15 +52,11 @@ unfolding replacedSet
 returns-in_err-check_apart c =
     let word : Words32 c.args.words.now = record { word = λ i. (c.type_inv.words i).fits } in
     let binds-word : Words32 c.args.binds.now = record { word = λ i. (c.type_inv.binds i).fits } in
-    let g = c.in_ok-given.ensures.answer in
-    let b = c.in_ok-bindings.ensures in
     let n = c.in_ok-bindings.bindings.names in
-    let o = set-opened n _ word _ (given _ setGiven c.args.names _ b.same _ g).1 in
-    let q = bindings-opened n _ binds-word _ (given _ bindingsGiven c.args.names _ b.same _ b.answer).1 in
     let p = err_from_is_err_and c.from_residual-in_err-check_apart.result c.from_residual-in_err-check_apart.ensures.1 in
     rw (p.1, p.2)
-    (made-refused _ (asked-apart setGiven (collect opensCon) madeSet _ _ c.args.names _ b.same _ g _ b.answer _ _ o q _
-    (c.in_err-check_apart.ensures (names_of (table_of n.pool.now n.table.now)))))
+    (made-refused _ (made-apart setGiven (collect opensCon) madeSet set-opened c.in_ok-bindings.ensures.same word binds-word c.in_ok-given.ensures.answer
+    c.in_ok-bindings.ensures.answer _ (c.in_err-check_apart.ensures (names_of (table_of n.pool.now n.table.now)))))
 
 pub set_into-requires : goal.set_into-requires
 set_into-requires c =
@@ -73,10 +69,6 @@ unfolding replacedSet
 returns c =
     let word : Words32 c.args.words.now = record { word = λ i. (c.type_inv.words i).fits } in
     let binds-word : Words32 c.args.binds.now = record { word = λ i. (c.type_inv.binds i).fits } in
-    let g = c.in_ok-given.ensures.answer in
-    let b = c.in_ok-bindings.ensures in
     let n = c.in_ok-bindings.bindings.names in
-    let o = set-opened n _ word _ (given _ setGiven c.args.names _ b.same _ g).1 in
-    let q = bindings-opened n _ binds-word _ (given _ bindingsGiven c.args.names _ b.same _ b.answer).1 in
-    as-made (asked-apart setGiven (collect opensCon) madeSet _ _ c.args.names _ b.same _ g _ b.answer _ _ o q _
+    as-made (made-apart setGiven (collect opensCon) madeSet set-opened c.in_ok-bindings.ensures.same word binds-word c.in_ok-given.ensures.answer c.in_ok-bindings.ensures.answer _
     (c.in_ok-check_apart.ensures (names_of (table_of n.pool.now n.table.now)))) c.set_into.ensures

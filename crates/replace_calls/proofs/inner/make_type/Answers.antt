@@ -12,8 +12,8 @@ use Rattle.types.specs.Given.{type_in}
 use Rattle.types.proofs.Tested.{given, same_table}
 use Rattle.records_buffers.proofs.Handed.{made-refused}
 use Rattle.replace_calls.specs.Made.{madeType}
-use Rattle.replace_calls.proofs.Checks.{second-too-long, first-stops, second-stops, asked-apart}
-use Rattle.replace_calls.proofs.Whole.{as-made, type-opened, bindings-opened, type-both}
+use Rattle.replace_calls.proofs.Checks.{second-too-long, first-stops, second-stops}
+use Rattle.replace_calls.proofs.Whole.{as-made, made-apart, type-opened, type-both}
 use Rattle.replace_calls.proofs.inner.make_type.Goals as goal
 
 pub returns-in_err-short : goal.returns-in_err-short
@@ -50,15 +50,11 @@ unfolding replacedType
 returns-in_err-check_apart c =
     let word : Words32 c.args.words.now = record { word = λ i. (c.type_inv.words i).fits } in
     let binds-word : Words32 c.args.binds.now = record { word = λ i. (c.type_inv.binds i).fits } in
-    let g = c.in_ok-given.ensures.answer in
-    let b = c.in_ok-bindings.ensures in
     let n = c.in_ok-bindings.bindings.names in
-    let o = type-opened n _ word _ (given _ typeGiven c.args.names _ b.same _ g).1 in
-    let q = bindings-opened n _ binds-word _ (given _ bindingsGiven c.args.names _ b.same _ b.answer).1 in
     let p = err_from_is_err_and c.from_residual-in_err-check_apart.result c.from_residual-in_err-check_apart.ensures.1 in
     rw (p.1, p.2)
-    (made-refused _ (asked-apart typeGiven opens madeType _ _ c.args.names _ b.same _ g _ b.answer _ _ o q _
-    (c.in_err-check_apart.ensures (names_of (table_of n.pool.now n.table.now)))))
+    (made-refused _ (made-apart typeGiven opens madeType type-opened c.in_ok-bindings.ensures.same word binds-word c.in_ok-given.ensures.answer
+    c.in_ok-bindings.ensures.answer _ (c.in_err-check_apart.ensures (names_of (table_of n.pool.now n.table.now)))))
 
 pub type_into-requires : goal.type_into-requires
 type_into-requires c =
@@ -71,10 +67,6 @@ unfolding replacedType
 returns c =
     let word : Words32 c.args.words.now = record { word = λ i. (c.type_inv.words i).fits } in
     let binds-word : Words32 c.args.binds.now = record { word = λ i. (c.type_inv.binds i).fits } in
-    let g = c.in_ok-given.ensures.answer in
-    let b = c.in_ok-bindings.ensures in
     let n = c.in_ok-bindings.bindings.names in
-    let o = type-opened n _ word _ (given _ typeGiven c.args.names _ b.same _ g).1 in
-    let q = bindings-opened n _ binds-word _ (given _ bindingsGiven c.args.names _ b.same _ b.answer).1 in
-    as-made (asked-apart typeGiven opens madeType _ _ c.args.names _ b.same _ g _ b.answer _ _ o q _
+    as-made (made-apart typeGiven opens madeType type-opened c.in_ok-bindings.ensures.same word binds-word c.in_ok-given.ensures.answer c.in_ok-bindings.ensures.answer _
     (c.in_ok-check_apart.ensures (names_of (table_of n.pool.now n.table.now)))) c.type_into.ensures
