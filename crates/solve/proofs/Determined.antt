@@ -1,7 +1,7 @@
 -- The contract leaves no choice, and the answer has the number of its outcome.
 use Rattle.std.specs.Prelude.{◌≡◌, refl, Result, Ok, Err, List, ℕ}
 use Rattle.std.proofs.Math.Path.{ap}
-use Rattle.std.proofs.Common.{ap₂, sym, ◌∙◌, arith}
+use Rattle.std.proofs.Common.{ap₂, sym, ◌∙◌}
 use Rattle.rules.specs.Calls as calls
 use Rattle.rules.specs.Calls.{solveCall}
 use Rattle.rules.specs.Numbers as numbers

@@ -14,7 +14,7 @@ use Rattle.rules.specs.declared.Refusal.{Refusal}
 use Rattle.names.specs.Told.{unit_of}
 use Rattle.names.specs.declared.tables.NameTable.{NameTable}
 use Rattle.types.specs.Given.{call_over}
-use Rattle.solve.proofs.Entry.{over_tested}
+use Rattle.types.proofs.Entering.{over_tested}
 use Rattle.rules.specs.Solving.{Answer, solve}
 use Rattle.rules.specs.Trees.{Con}
 use Rattle.rules.specs.declared.Refusal.TheVariants.{ShortBuffer}

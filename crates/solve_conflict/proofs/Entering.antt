@@ -15,7 +15,7 @@ use Rattle.names.specs.declared.tables.NameTable.{NameTable}
 use Rattle.types.specs.Given.{call_over, constraints_in}
 use Rattle.types.specs.declared.GivenSet.{GivenSet}
 use Rattle.solve.specs.Entry.{entered}
-use Rattle.solve.proofs.Entry.{came-in, kept_out, over_tested}
+use Rattle.types.proofs.Entering.{came-in, kept_out, over_tested}
 use Rattle.solve_conflict.specs.Told.{FoundAs, conflictsAs}
 
 module _ (names : Result NameTable Refusal) (ws : List ℕ) where

@@ -5,7 +5,8 @@ use Rattle.rules.specs.Calls.{solvedSet}
 use Rattle.rules.specs.Names.{numbersOf, table_of}
 use Rattle.rules.specs.Solving.{Answer, solve}
 use Rattle.records_buffers.proofs.OnLent.{Long, long, short}
-use Rattle.solve.proofs.Entry.{short-stands, called-stands, call-short, called, over_tested, answers-as}
+use Rattle.types.proofs.Entering.{over_tested}
+use Rattle.solve.proofs.Entry.{short-stands, called-stands, call-short, called, answers-as}
 use Rattle.solve.specs.Told.{Answered}
 use mathlib.Core.Bool.{not}
 use mathlib.Core.Path.{ap, sym}

@@ -5,7 +5,7 @@ use Rattle.rules.specs.Calls.{solvedSet}
 use Rattle.rules.specs.Names.{numbersOf}
 use Rattle.rules.specs.Solving.{solve}
 use Rattle.rules.specs.Refusals.{told}
-use Rattle.solve.proofs.Entry.{over_tested}
+use Rattle.types.proofs.Entering.{over_tested}
 use Rattle.solve_batch.proofs.Steps.{finished-as}
 use Rattle.rules.specs.Batches.{batchFits}
 use Rattle.solve_batch.proofs.Checks.{Room, roomy, cramped, begun, call-short, call-unfit, called}

@@ -2,7 +2,7 @@
 use Rattle.std.proofs.Common.{sym, ◌∙◌}
 use Rattle.rules.specs.Names.{table_of, names_of}
 use Rattle.types.proofs.GivenSets.{given-in}
-use Rattle.solve.proofs.Entry.{entry-small, let-in}
+use Rattle.types.proofs.Entering.{entry-small, let-in}
 use Rattle.solve.proofs.inner.enter.Goals as goal
 
 pub is_unmixed-requires : goal.is_unmixed-requires

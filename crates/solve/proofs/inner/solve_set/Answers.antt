@@ -4,7 +4,8 @@ use Rattle.rules.specs.Calls.{solvedSet}
 use Rattle.rules.specs.Names.{numbersOf}
 use Rattle.rules.specs.Solving.{solve}
 use Rattle.types.specs.Given.{constraints_in}
-use Rattle.solve.proofs.Entry.{entered-given, came-in, kept_out, begun, answers-as, refused-answers}
+use Rattle.types.proofs.Entering.{entered-given, came-in, kept_out}
+use Rattle.solve.proofs.Entry.{begun, answers-as, refused-answers}
 use Rattle.solve.proofs.inner.solve_set.Goals as goal
 
 pub run-requires-clause-begun : goal.run-requires-clause-begun
