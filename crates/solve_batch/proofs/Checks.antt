@@ -1,5 +1,5 @@
 -- The checks of a batch, from the lengths of what is lent.
-use Rattle.std.specs.Prelude.{Ok, ◌≡◌, refl, Bool, true, false, not, ◌&&◌, List, ℕ, ◌*◌, ◌≤◌, ◌<◌, leb, eqb, length, replicate}
+use Rattle.std.specs.Prelude.{Ok, ◌≡◌, refl, Bool, true, false, not, List, ℕ, ◌*◌, ◌≤◌, ◌<◌, leb, eqb, length, replicate}
 use Rattle.std.proofs.Math.Bool.{and-false}
 use Rattle.std.proofs.Math.Path.{sym, ap}
 use Rattle.std.proofs.Common.{◌∙◌}

@@ -1,7 +1,7 @@
 -- One set after another: what a step leaves, and what is left to do.
 use Rattle.std.specs.Prelude.{◌≡◌}
 use mathlib.Core.List.{List, map}
-use Prim.Native.Nat.{ℕ, ◌*◌, ◌-◌, ◌≤◌}
+use Prim.Native.Nat.{ℕ, ◌*◌, ◌≤◌}
 use Rattle.std.proofs.Math.ListN.{length}
 use Rattle.std.proofs.Math.Seq.{sets}
 use Rattle.rules.specs.Base.{Got, collect, sum_of}

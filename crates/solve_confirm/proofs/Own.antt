@@ -2,8 +2,8 @@
 use Rattle.std.specs.Prelude.{◌≡◌, refl, Bool, true, ◌&&◌, List, [], ◌∷◌, ℕ, ◌≤◌, leb, length, Result, Ok, Err, is_none}
 use Rattle.std.specs.Prelude as std
 use Rattle.std.proofs.Common.{subst, arith}
-use borrow.Author.Tests.{leb-true, le-leb}
-use Rattle.rules.specs.Base.{Got, got, refused, need, bounded, all, collect}
+use borrow.Author.Tests.{le-leb}
+use Rattle.rules.specs.Base.{Got, got, refused, need, bounded, collect}
 use Rattle.rules.specs.Calls.{shortLists, tableKept, setGiven, apart, solvedSet}
 use Rattle.rules.specs.Contents.{unmixed}
 use Rattle.rules.specs.Names.{Table, table_of, numbersOf, is_held, lentTable}
@@ -14,7 +14,7 @@ use Rattle.rules.specs.WellFormed.{goodBinding}
 use Rattle.rules.specs.declared.Refusal.{Refusal}
 use Rattle.laws.proofs.Checks.{need-passed, list-short}
 use Rattle.laws.proofs.Given.{lent-long, kept-good, set-read}
-use Rattle.laws.specs.Lists.{and_left, all-every}
+use Rattle.laws.specs.Lists.{all-every}
 use Rattle.laws.proofs.Lists.{is_all, bound-step}
 use Rattle.laws.specs.NameTable.{Good}
 use Rattle.records.specs.Found.{Words32}

@@ -1,6 +1,6 @@
 -- What is answered is true, and comes just where solving accepts and the judge says yes.
 use Rattle.std.specs.Prelude.{◌≡◌, refl, Bool, true, false, List, ◌++◌, ℕ, length}
-use Rattle.std.proofs.Common.{sym, ap, ap₂, ◌∙◌, arith}
+use Rattle.std.proofs.Common.{sym, ap, ap₂, ◌∙◌}
 use Rattle.rules.specs.Base.{Got, got, refused, ◌>>◌, bounded, collect, sum_of}
 use Rattle.rules.specs.Calls as calls
 use Rattle.rules.specs.Calls.{

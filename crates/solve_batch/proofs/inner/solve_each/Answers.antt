@@ -1,7 +1,7 @@
 -- `inner::solve_each` meets its contract.
 use Rattle.std.proofs.Common.{refl, ap, ◌∙◌, ◌-◌, ◌+◌, ◌*◌, arith}
 use Rattle.rules.specs.Batches.{recordsOf}
-use Rattle.solve_batch.proofs.Steps.{Written, doing-first, doing-next, doing-last, room-left, to_inside, one_written, part-long, told-at}
+use Rattle.solve_batch.proofs.Steps.{doing-first, doing-next, doing-last, room-left, one_written, told-at}
 use Rattle.solve_batch.proofs.inner.solve_each.Goals as goal
 
 pub sets-init : goal.sets-init

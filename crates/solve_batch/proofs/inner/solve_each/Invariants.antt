@@ -1,4 +1,4 @@
-use Rattle.std.specs.Prelude.{◌≡◌, ◌≤◌, length}
+use Rattle.std.specs.Prelude.{◌≡◌, length}
 use Rattle.rules.specs.Calls.{solvedSet}
 use Rattle.types.specs.Given.{call_over}
 use Rattle.solve_batch.proofs.Steps.{Doing}
