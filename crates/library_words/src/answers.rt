@@ -71,18 +71,8 @@ pub fn rescued(a: Result<Counts, Refusal>) -> Told
     }
 }
 
-/// How many names a compaction kept.
-pub fn compacted(a: Result<usize, Refusal>) -> Told
-    ensures { result ≡ countAs (told a) }
-{
-    match a {
-        Ok(n) => said(short(n), 0, 0),
-        Err(why) => refused(why, 0, 0),
-    }
-}
-
-/// How many bytes a text has.
-pub fn spelt(a: Result<usize, Refusal>) -> Told
+/// What a call counts: the names that a compaction kept, the bytes of a text.
+pub fn amount(a: Result<usize, Refusal>) -> Told
     ensures { result ≡ countAs (told a) }
 {
     match a {

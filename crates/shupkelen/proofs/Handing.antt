@@ -1,15 +1,9 @@
 -- From what the three calls of an exported function promise to what it promises: the call itself, its answer told in words, the words handed over.
-use Rattle.std.specs.Prelude.{◌≡◌, refl, List, ℕ}
-use Rattle.std.proofs.Common.{ap, ◌∙◌}
+use Rattle.std.specs.Prelude.{◌≡◌, refl}
 use Rattle.rules.specs.Base.{Got, got, refused}
 use Rattle.rules.specs.Names.{Bytes}
 use Rattle.rules.specs.Numbers.{refusalIn}
-use Rattle.rules.specs.Values.{ProductValue}
 use Rattle.names.specs.Told.{refusalOf}
-use Rattle.library_words.specs.Factors.{toldOf, written_of}
-use Rattle.calls_defined.specs.declared.told.Told.{Told}
-use Rattle.library_words.specs.Words.{answerWords}
-use Rattle.shupkelen.specs.Exports.{out, handed}
 
 -- a check's number is that of what it checks
 pub same_number : (g : Got Bytes) → refusalIn (refusalOf g) ≡ refusalIn g

@@ -7,7 +7,7 @@ ghost use Rattle.rules.specs.TextReading.{readTextCall};
 ghost use Rattle.shupkelen.specs.Exports.{out, rescuedOut, compactedOut, textOut, textReadOut};
 
 use compaction::compact;
-use library_words::answers::{compacted, rescued, sheet, spelt};
+use library_words::answers::{amount, rescued, sheet};
 use library_words::hand;
 use rescue::rescue;
 use text::{read_text, write_text};
@@ -42,7 +42,7 @@ pub extern "C" fn shupkelen_compact(
 ) -> u32
     ensures { out result answer.new (pool.new, (table.new, sets.new)) ≡ compactedOut (compactCall pool.old table.old sets.old lengths.now) answer.old }
 {
-    hand(compacted(compact(pool, table, sets, lengths)), answer)
+    hand(amount(compact(pool, table, sets, lengths)), answer)
 }
 
 /// Writes a set as text, a line a constraint, to the front of `text` (354,304 bytes or more; the rest stays). Says how many bytes. Refuses with 10, 8 and
@@ -57,7 +57,7 @@ pub extern "C" fn shupkelen_write_text(
 ) -> u32
     ensures { out result answer.new text.new ≡ textOut (writeTextCall pool.now table.now set.now text.old) answer.old }
 {
-    hand(spelt(write_text(pool, table, set, text)), answer)
+    hand(amount(write_text(pool, table, set, text)), answer)
 }
 
 /// Reads text, any bytes, as a set (docs/GRAMMAR.md), to the front of `res`, and enters its new names into pool and table. Says how many records,

@@ -1,12 +1,20 @@
 //! The calls on exponents. A numerator is answered in two's complement.
 ghost use Rattle.std.specs.Prelude.{◌≡◌};
 ghost use Rattle.rules.specs.Exponents.{frac};
+ghost use Rattle.exponents.specs.Answers.{expOf};
 ghost use Rattle.rules.specs.Values.{sumCall, timesCall, negationCall, quotientCall};
 ghost use Rattle.shupkelen.specs.Exports.{out, powerOut};
 
 use exponents::Exponent;
 use library_words::answers::powered;
 use library_words::hand;
+
+// An exponent from its numerator and its denominator.
+fn exponent(num: i32, den: u32) -> Exponent
+    ensures { expOf result ≡ frac num den }
+{
+    Exponent { num, den }
+}
 
 /// The sum of two exponents, fractions in lowest terms: says its numerator in two's complement, and its denominator. Refuses with 1 (one is not well
 /// formed) and 7 (out of range: numerators and denominators are at most 2,147,483,647).
@@ -20,12 +28,10 @@ pub extern "C" fn shupkelen_exponent_add(
 ) -> u32
     ensures { out result answer.new tt ≡ powerOut (sumCall (frac num den) (frac num2 den2)) answer.old }
 {
-    let e = Exponent { num, den };
-    let f = Exponent {
-        num: num2,
-        den: den2,
-    };
-    hand(powered(e.add(f)), answer)
+    hand(
+        powered(exponent(num, den).add(exponent(num2, den2))),
+        answer,
+    )
 }
 
 /// The product of two exponents. Says and refuses as the sum does.
@@ -39,12 +45,10 @@ pub extern "C" fn shupkelen_exponent_multiply(
 ) -> u32
     ensures { out result answer.new tt ≡ powerOut (timesCall (frac num den) (frac num2 den2)) answer.old }
 {
-    let e = Exponent { num, den };
-    let f = Exponent {
-        num: num2,
-        den: den2,
-    };
-    hand(powered(e.multiply(f)), answer)
+    hand(
+        powered(exponent(num, den).multiply(exponent(num2, den2))),
+        answer,
+    )
 }
 
 /// The negative of an exponent. Says as the sum does. Refuses with 1.
@@ -52,8 +56,7 @@ pub extern "C" fn shupkelen_exponent_multiply(
 pub extern "C" fn shupkelen_exponent_negate(num: i32, den: u32, answer: &mut [u32]) -> u32
     ensures { out result answer.new tt ≡ powerOut (negationCall (frac num den)) answer.old }
 {
-    let e = Exponent { num, den };
-    hand(powered(e.negate()), answer)
+    hand(powered(exponent(num, den).negate()), answer)
 }
 
 /// The quotient of two exponents. Says and refuses as the sum does, with 7 also where the divisor is 0.
@@ -67,10 +70,8 @@ pub extern "C" fn shupkelen_exponent_divide(
 ) -> u32
     ensures { out result answer.new tt ≡ powerOut (quotientCall (frac num den) (frac num2 den2)) answer.old }
 {
-    let e = Exponent { num, den };
-    let f = Exponent {
-        num: num2,
-        den: den2,
-    };
-    hand(powered(e.divide(f)), answer)
+    hand(
+        powered(exponent(num, den).divide(exponent(num2, den2))),
+        answer,
+    )
 }

@@ -4,7 +4,6 @@ use mathlib.Core.Bool.{Bool, true, false}
 use Prim.Native.Nat.{ℕ}
 use Rattle.rules.specs.Base.{Got, need}
 use Rattle.rules.specs.Numbers.{refusalIn}
-use borrow.Author.Rules.{rules}
 use Rattle.shupkelen.proofs.on_lists.shupkelen_lent.Goals as goal
 
 enough : (b : Bool) {g : Got (Unit {0})} → need b 10 ≡ g → b ≡ true → 0 ≡ refusalIn g

@@ -2,7 +2,6 @@
 use mathlib.Core.Path.{ap, ◌∙◌}
 use Rattle.rules.specs.Numbers.{refusalIn}
 use Rattle.shupkelen.proofs.Handing.{same_number}
-use borrow.Author.Rules.{rules}
 use Rattle.shupkelen.proofs.on_names.shupkelen_check_number.Goals as goal
 
 pub returns : goal.returns
