@@ -18,7 +18,7 @@ mod words;
 
 ghost use Rattle.std.specs.Prelude.{◌≡◌, OnErr};
 
-use anyhow::{Error, Result, anyhow, bail};
+use anyhow::{Context, Error, Result, anyhow, bail};
 use clap::error::ErrorKind;
 pub use edition_checks::status::Status;
 use edition_checks::status::{Totals, status_of};
@@ -73,7 +73,7 @@ fn line_on<R: AllocGlobal>(rt: &R, path: &str, what: &str) -> Result<String> {
 }
 
 // What is wrong with the file that an option names, if something is: it can't be opened by its name, or it is to be written and is a sheet.
-fn wrong_with<R: AllocGlobal>(
+fn wrong_with<R: Files + AllocGlobal>(
     rt: &R,
     words: &Words,
     names: &[&str],
@@ -89,10 +89,14 @@ fn wrong_with<R: AllocGlobal>(
             ": no file can be opened by a name that isn't UTF-8",
         )?));
     }
-    if options.output().is_some() && path != "-" && names.iter().any(|name| *name == path) {
-        return Ok(Some(line_on(rt, path, ": named as a sheet, and as the file to write")?));
+    match options.output() {
+        Some(output) if output.is_sheet(rt, names) => Ok(Some(line_on(
+            rt,
+            path,
+            ": named as a sheet, and as the file to write",
+        )?)),
+        _ => Ok(None),
     }
-    Ok(None)
 }
 
 // Sees that the file that is to be written, if one is, may be made anew.
@@ -100,7 +104,8 @@ fn check_output<R: Files + AllocGlobal>(rt: &R, options: Options) -> Result<()> 
     let Some(output) = options.output() else {
         return Ok(());
     };
-    if output.may_be_written(rt) {
+    let unread = line_on(rt, output.path(), ": can't be read: not overwritten")?;
+    if output.may_be_written(rt).context(unread)? {
         return Ok(());
     }
     let path = line_on(rt, output.path(), ": exists, and is no ")?;
@@ -144,7 +149,7 @@ fn check_words<R: Files + Input + Print + Eprint + AllocGlobal>(
     };
     let options = Options::of(&matches);
     let names = matches.get_strs("FILE");
-    if let Some(what) = wrong_with(rt, words, names.unwrap_or(&[]), options)? {
+    if let Some(what) = wrong_with(rt, words, names.unwrap_or(&["-"]), options)? {
         return Ok(mistake(rt, &what));
     }
     match names {

@@ -1,6 +1,7 @@
 // A file that is made anew: nothing else is overwritten.
 use filling::fill_front;
-use std::io::Write;
+use std::io::{ErrorKind, Write};
+use std::os::unix::fs::MetadataExt;
 use std::rt::Files;
 use std::{fs, io};
 
@@ -35,27 +36,50 @@ impl<'a> Output<'a> {
         }
     }
 
-    /// May the file be made anew: is it none yet, or empty, or no file proper (a device, a pipe), or does it begin as what is written? One that can't be
-    /// read may be: it is left to the operating system whether it can be written.
-    pub(crate) fn may_be_written<R: Files>(self, rt: &R) -> bool {
+    /// May the file be made anew: is it none yet, or empty, or no file proper (a device, a pipe), or does it begin as what is written? An error where that
+    /// can't be seen: then something may be there.
+    pub(crate) fn may_be_written<R: Files>(self, rt: &R) -> io::Result<bool> {
         match fs::metadata(rt, self.path()) {
-            Ok(found) => !found.is_file() || found.len() == 0 || self.begins_so(rt),
-            Err(_) => true,
+            Ok(found) if found.is_file() && 0 < found.len() => self.begins_so(rt),
+            Ok(_) => Ok(true),
+            Err(error) if error.kind() == ErrorKind::NotFound => Ok(true),
+            Err(error) => Err(error),
         }
     }
 
-    // Does the file begin as what is written, if it can be read?
-    fn begins_so<R: Files>(self, rt: &R) -> bool {
+    /// Is the file one of the sheets with these names: by its name, or as the same file by another path?
+    pub(crate) fn is_sheet<R: Files>(self, rt: &R, names: &[&str]) -> bool {
+        let path = self.path();
+        let ours = identity(rt, path);
+        for name in names {
+            // As a sheet "-" is standard input, and as the file to write a file of that name.
+            let sheet = if *name == "-" { "/dev/stdin" } else { *name };
+            if sheet == path || ours.is_some() && identity(rt, sheet) == ours {
+                return true;
+            }
+        }
+        false
+    }
+
+    // Does the file begin as what is written?
+    fn begins_so<R: Files>(self, rt: &R) -> io::Result<bool> {
         let begins = match self {
             Output::Certificate(_) => CERTIFICATE,
             Output::Page(_) => PAGE.as_bytes(),
         };
-        let Ok(mut file) = fs::open(rt, self.path()) else {
-            return true;
-        };
+        let mut file = fs::open(rt, self.path())?;
         let mut front = [0u8; 256];
         let (n, read) = fill_front(&mut file, &mut front);
-        read.is_err() || front[..n].starts_with(begins)
+        read?;
+        Ok(front[..n].starts_with(begins))
+    }
+}
+
+// The device and the inode of a regular file, if one is there.
+fn identity<R: Files>(rt: &R, path: &str) -> Option<(u64, u64)> {
+    match fs::metadata(rt, path) {
+        Ok(found) if found.is_file() => Some((found.dev(), found.ino())),
+        _ => None,
     }
 }
 
