@@ -52,27 +52,45 @@ impl Certificate {
         Ok(())
     }
 
-    // Adds a sheet, once: a file that was named before is there already.
+    // Adds a sheet, once: a file that was named before is there already. Where it held other bytes then, it is left out.
     fn add_sheet(&mut self, alloc: Global, name: &[u8], text: &[u8], lines: Vec<u8>) -> Result<()> {
         let entry = match keep(alloc, name, text, lines)? {
             Ok(entry) => entry,
             Err(verdict) => return self.leave_out(name, verdict),
         };
-        if !self
-            .entries
-            .iter()
-            .any(|e| e.name.as_slice() == entry.name.as_slice())
-        {
-            self.entries.push(entry)?;
+        match self.digest_of(&entry.name) {
+            None => self.entries.push(entry)?,
+            Some(digest) if digest == entry.digest => {}
+            Some(_) => {
+                self.begin_left_out(name)?;
+                self.left_out
+                    .push_str("another sheet of that name is in it\n")?;
+            }
         }
+        Ok(())
+    }
+
+    // The digest of the sheet with this name, if it has one.
+    fn digest_of(&self, name: &[u8]) -> Option<[u8; 32]> {
+        for entry in &self.entries {
+            if entry.name.as_slice() == name {
+                return Some(entry.digest);
+            }
+        }
+        None
+    }
+
+    // Begins the line of a sheet that is left out.
+    fn begin_left_out(&mut self, name: &[u8]) -> Result<()> {
+        push_shown(&mut self.left_out, name)?;
+        self.left_out
+            .push_str(": accepted, and not in the certificate: ")?;
         Ok(())
     }
 
     // Leaves out a sheet whose lines don't verify it: they have more records than a sheet may.
     fn leave_out(&mut self, name: &[u8], verdict: Verdict) -> Result<()> {
-        push_shown(&mut self.left_out, name)?;
-        self.left_out
-            .push_str(": accepted, and not in the certificate: ")?;
+        self.begin_left_out(name)?;
         match refusal_of(verdict) {
             Some(why) => {
                 writeln!(self.left_out, "its lines are refused ({})", why.number())?;
