@@ -22,6 +22,9 @@ const PIECE_BYTES: usize = 1_048_576;
 /// It has at most so many pieces.
 const PIECES: usize = 64;
 
+/// How a certificate begins whose lines were given carriage returns.
+const RETURNED: &[u8] = b"check_edition certificate 1\r\n";
+
 // Why a certificate's file can't be had, in words.
 fn unseen(why: Unseen) -> &'static [u8] {
     match why {
@@ -31,11 +34,14 @@ fn unseen(why: Unseen) -> &'static [u8] {
     }
 }
 
-// Says why a file can't be used as a certificate.
-fn put_fault(out: &mut Vec<u8>, path: &[u8], fault: Fault) -> Result<(), AllocError> {
+// Says why a file with this text can't be used as a certificate.
+fn put_fault(out: &mut Vec<u8>, path: &[u8], text: &[u8], fault: Fault) -> Result<(), AllocError> {
     put_shown(out, path)?;
     match fault {
         Fault::Other => out.put(b": this is no certificate\n"),
+        Fault::Version if text.starts_with(RETURNED) => out.put(
+            b": the certificate's lines end with carriage returns: it isn't as it was written\n",
+        ),
         Fault::Version => out.put(b": the certificate is of another version\n"),
         Fault::Torn => out.put(b": the certificate is torn: it has no last line\n"),
         Fault::Line(number) => {
@@ -86,7 +92,7 @@ fn kept_in<R: Files + AllocGlobal>(rt: &R, path: &str) -> Result<Result<Vec<Entr
     match read_certificate(alloc, &text)? {
         Ok(entries) => Ok(Ok(entries)),
         Err(fault) => {
-            put_fault(&mut line, path.as_bytes(), fault)?;
+            put_fault(&mut line, path.as_bytes(), &text, fault)?;
             Ok(Err(line))
         }
     }
