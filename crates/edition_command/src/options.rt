@@ -106,12 +106,29 @@ fn flag<'a>(alloc: Global, name: &'a str, help: &'a str) -> Arg<'a> {
         .action(ArgAction::SetTrue)
 }
 
-// An option that names a file.
-fn file<'a>(alloc: Global, name: &'a str, help: &'a str) -> Arg<'a> {
+// An option that names a file, and stands beside none of the others.
+fn file<'a>(
+    alloc: Global,
+    name: &'a str,
+    help: &'a str,
+    others: &'a [&'a str],
+) -> Result<Arg<'a>, AllocError> {
     Arg::new(alloc, name)
         .long(name)
         .value_name("FILE")
         .help(help)
+        .conflicts_with_all(others)
+}
+
+// The names behind a report of lines.
+fn names<'a>(alloc: Global) -> Result<Arg<'a>, AllocError> {
+    flag(
+        alloc,
+        "names",
+        "List each sheet's new names behind the report",
+    )
+    .conflicts_with("json")?
+    .conflicts_with("html")
 }
 
 // What is told, and of which sheets.
@@ -123,15 +140,7 @@ fn with_pages<'a>(alloc: Global, command: Command<'a>) -> Result<Command<'a>, Al
             "Leave out the pages of sheets that are accepted",
         )
         .short('q'))?
-        .arg(
-            flag(
-                alloc,
-                "names",
-                "List each sheet's new names behind the report",
-            )
-            .conflicts_with("json")?
-            .conflicts_with("html")?,
-        )?
+        .arg(names(alloc)?)?
         .arg(flag(
             alloc,
             "why",
@@ -151,53 +160,70 @@ fn with_forms<'a>(alloc: Global, command: Command<'a>) -> Result<Command<'a>, Al
         alloc,
         "html",
         "Write the report as a page of HTML to FILE, and the last line alone on standard output",
-    )
-    .conflicts_with("json")?;
+        &["json"],
+    )?;
     command
         .arg(flag(alloc, "json", "Write one value of JSON in place of lines"))?
         .arg(html)
 }
 
-// What is kept of sheets, and sheets that are judged by it.
-fn with_certificates<'a>(alloc: Global, command: Command<'a>) -> Result<Command<'a>, AllocError> {
-    let certificate = file(
+// What is kept of sheets.
+fn certificate<'a>(alloc: Global) -> Result<Arg<'a>, AllocError> {
+    file(
         alloc,
         "certificate",
         "Write to FILE what is to be kept of the accepted sheets: digests, and what their variables stand for",
+        &["json", "html"],
     )
-    .conflicts_with("json")?
-    .conflicts_with("html")?;
-    let verify = file(
+}
+
+// Sheets that are judged by what was kept of them.
+fn verify<'a>(alloc: Global) -> Result<Arg<'a>, AllocError> {
+    file(
         alloc,
         "verify",
         "Solve nothing: judge the sheets by the certificate in FILE",
+        &[
+            "certificate",
+            "json",
+            "html",
+            "quiet",
+            "names",
+            "why",
+            "separate",
+            "strict",
+        ],
     )
-    .conflicts_with("certificate")?
-    .conflicts_with("json")?
-    .conflicts_with("html")?
-    .conflicts_with("quiet")?
-    .conflicts_with("names")?
-    .conflicts_with("why")?
-    .conflicts_with("separate")?
-    .conflicts_with("strict")?;
-    command.arg(certificate)?.arg(verify)
 }
 
-/// The words that the program takes.
-pub(crate) fn command<'a>(alloc: Global) -> Result<Command<'a>, AllocError> {
-    let files = Arg::new(alloc, "FILE")
+// What is kept of sheets, and sheets that are judged by it.
+fn with_certificates<'a>(alloc: Global, command: Command<'a>) -> Result<Command<'a>, AllocError> {
+    command.arg(certificate(alloc)?)?.arg(verify(alloc)?)
+}
+
+// The files that are checked.
+fn sheets<'a>(alloc: Global) -> Arg<'a> {
+    Arg::new(alloc, "FILE")
         .help(
             "Sheets, one file each; none, or -, is standard input (beside --verify name at least one)",
         )
         .action(ArgAction::Append)
-        .num_args(0..);
-    let command = Command::new(alloc, "check_edition")
+        .num_args(0..)
+}
+
+// The program, as its help begins and ends.
+fn program<'a>(alloc: Global) -> Command<'a> {
+    Command::new(alloc, "check_edition")
         .version("0.1.0")
         .about(
             "Checks sheets of type and dimension constraints: each is solved, and what solves it is judged",
         )
         .after_help(AFTER)
-        .arg(files)?;
+}
+
+/// The words that the program takes.
+pub(crate) fn command<'a>(alloc: Global) -> Result<Command<'a>, AllocError> {
+    let command = program(alloc).arg(sheets(alloc))?;
     let command = with_pages(alloc, command)?;
     let command = with_forms(alloc, command)?;
     with_certificates(alloc, command)
