@@ -16,7 +16,7 @@ use Rattle.rules.specs.WellFormed.{goodOpen, goodFactor}
 use Rattle.laws.specs.GoodProducts.{goodAtom}
 use Rattle.exponents.specs.Answers.{expOf}
 use Rattle.products.specs.declared.Factor.{Factor}
-use Rattle.products.specs.Told.{valueIn, tree_of, fine, rank_of}
+use Rattle.products.specs.Told.{valueIn, atomAt, tree_of, fine, rank_of}
 use Rattle.products.specs.Kinds.{Kind, variable, parameter, dimension, quantified, atomBy, Fine}
 
 -- a kind, or no atom
@@ -152,3 +152,9 @@ module _ (ν : Names ℕ) (held : ℕ → Bool) where
   order-by k j x y quantified parameter = refl
   order-by k j x y quantified dimension = refl
   order-by k j x y quantified quantified = refl
+
+-- the order of two factors that are held in a table
+module _ {names : Names ℕ} {held : ℕ → Bool} where
+  pub by_rank : (f g : Factor) → Fine names held f → Fine names held g → orderAtom names (atomAt f) (atomAt g)
+      ≡ then (compare (rank_of f.kind) (rank_of g.kind)) (cond (eqb f.kind 15) (compare f.name g.name) (names.order f.name g.name))
+  by_rank f g h k = order-by names held f.kind g.kind f.name g.name h.kind k.kind

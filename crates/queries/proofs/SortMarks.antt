@@ -9,12 +9,16 @@ use Rattle.std.proofs.Math.Seq.{set-append_seam}
 use Rattle.rules.specs.Trees.{Names}
 use Rattle.rules.specs.Contents.{sort}
 use Rattle.rules.specs.Calls.{over}
+use Rattle.rules.specs.Names.{table_of, names_of}
 use Rattle.laws.proofs.Lists.{true≢false}
+use Rattle.laws.specs.ByteOrder.{numbered-lawful}
+use Rattle.laws.specs.NameTable.{Good, held_tells}
 use Rattle.laws.specs.Order.{Lawful, Tells}
 use Rattle.laws.proofs.Order.{after}
 use Rattle.laws.specs.Lists.{Every}
 use Rattle.laws.proofs.SortedNames.{In, same-sort, first-sort, sort-few}
 use Rattle.laws.proofs.SortedNames.{every_in, in-every}
+use Rattle.records.specs.Good.{numbers}
 use Rattle.queries.proofs.MarkLaws.{any-in, in-any}
 use Rattle.queries.specs.Marks.{Marks, Held, picked, Least, firstBy, sooner, Filled}
 
@@ -171,7 +175,20 @@ pub record Sorting (ν : Names ℕ) (n : ℕ) (m : List Bool) (before : List ℕ
   pub buffer : now ≡ over written before
   pub same : length now ≡ length before
 
-module _ (ν : Names ℕ) (law : Lawful ν.order) (n : ℕ) (tells : Tells (λ x. x < n) ν.order) (m : List Bool) (before : List ℕ) where
+-- of the names of a table that was tested
+module _ {pool table : List ℕ} (good : Good pool table) (m : List Bool) (before : List ℕ) where
+  abbrev ν : Names ℕ
+  ν = numbers pool table
+
+  abbrev n : ℕ
+  n = get_or table 0 0
+
+  law : Lawful ν.order
+  law = numbered-lawful (names_of (table_of pool table))
+
+  tells : Tells (λ x. x < n) ν.order
+  tells = held_tells good
+
   pub sorting_start : Held n m → Sorting ν n m before m before 0
   sorting_start h = record { held = h; written = []; rest = refl; many = refl; buffer = sym (over_none before); same = refl }
 
