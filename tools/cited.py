@@ -1,16 +1,17 @@
 #!/usr/bin/env python3
-"""Names what stands in a folder specs/ and no contract cites: it belongs in proofs/.
+"""Names what stands in a folder specs/ and no contract cites: it belongs in proofs/. And what stands in proofs/ and nothing cites: it goes.
 
 A contract is what a clause of src/ names, and every definition that such a definition names in turn. Cases that are computed beside definitions (CasesOf..,
-Examples) stay there, with what they name; the crate `rules` is read for its definitions alone and isn't looked at. `--lines` tells for each crate how many
-lines its specs/ has."""
+Examples) stay there, with what they name; the crate `rules` is read for its definitions alone and isn't looked at. A lemma that a page cites stays, and so do
+computed instances (Instances) and the theorems of ByNames, which are read for themselves. `--lines` tells for each crate how many lines its specs/ has."""
 import re
 import sys
-from collections import defaultdict
+from collections import Counter, defaultdict
 from pathlib import Path
 
 CRATES = Path(__file__).resolve().parent.parent / "crates"
 CASES = re.compile(r"(Cases(Of\w*)?|\w*Examples)$")
+READ = re.compile(r"(Cases(Of\w*)?|Instances|ByNames)$")
 TOKEN = re.compile(r"[^\s(){}\[\],;]+")
 USE = re.compile(r"^ *(pub )?(?:ghost )?use (\w+(?:\.\w+)*)(?:\.\{([^}]*)\}| as ([^\s;]+))?", re.M)
 START = re.compile(r"^ *((?:(?:pub|abbrev|unfoldable) )*)(record |data |ruleset )?(\S+)((?: .*)?)$")
@@ -118,6 +119,20 @@ def promised(modules):
             yield from cited(modules, place, module.text)
 
 
+def alone(modules):
+    """What stands in proofs/ and no other declaration, clause, edit or page cites."""
+    words = re.compile(r"[^\s(){}\[\],;.:`\"]+")
+    code = [p.read_text(encoding="utf-8") for kind in ("src/**/*.rt", "must-fail/*.edit") for p in CRATES.glob(f"*/{kind}")]
+    pages = [p.read_text(encoding="utf-8") for p in (*CRATES.parent.glob("*.md"), *CRATES.parent.glob("docs/**/*.md")) if "history" not in p.parts]
+    count = Counter(word for text in code + pages + [USE.sub("", m.text) for m in modules.values()] for word in words.findall(text))
+    for module in modules.values():
+        if module.part == "proofs" and not module.file.endswith(("Answers", "Invariants")) and not READ.search(module.file):
+            for name, lines in module.declared.items():
+                own = words.findall("\n".join(lines[1:]))
+                if "◌" not in name and count[name] <= own.count(name):
+                    yield f"crates/{module.crate}/proofs/{module.file}.antt: nothing cites {name}"
+
+
 def main():
     paths = [p for part in ("specs", "proofs") for p in CRATES.glob(f"*/{part}/**/*.antt") if p.name != "Lib.antt" and "out" not in p.parts]
     made = map(Module, paths)
@@ -135,11 +150,12 @@ def main():
         if module.part == "specs" and module.crate != "rules" and not CASES.match(module.file) and not module.file.startswith("declared"):
             lines[module.crate] += sum(bool(line.strip()) for of in module.declared.values() for line in of[1:])
             idle += [f"crates/{module.crate}/specs/{module.file}.antt: no contract cites {n}" for n in module.declared if (place, n) not in reached]
-    print(*idle, sep="\n", end="\n" if idle else "")
+    lone = list(alone(modules))
+    print(*idle, *lone, sep="\n", end="\n" if idle or lone else "")
     if "--lines" in sys.argv:
         print(*[f"{c} {n}" for c, n in sorted(lines.items(), key=lambda it: -it[1])], sep="\n")
-    print(f"{sum(lines.values())} lines of definitions beside rules, {len(idle)} names that no contract cites")
-    return 1 if idle else 0
+    print(f"{sum(lines.values())} lines of definitions beside rules, {len(idle)} names that no contract cites, {len(lone)} lemmas that nothing cites")
+    return 1 if idle or lone else 0
 
 
 if __name__ == "__main__":
