@@ -1,6 +1,26 @@
 -- What follows from the definitions of specs/Twos: factors 2: what is left of a number without them, and what they do to a greatest common divisor.
 use Rattle.std.specs.Prelude.{◌≡◌, refl, ℕ, zero, suc, ◌+◌, ◌-◌, ◌*◌, ◌/◌, ◌%◌, ◌^◌, ◌≤◌, ◌<◌, min, max}
-use Rattle.std.proofs.Common.{ap, ap₂, ◌∙◌, sym, subst, add-mul, mul-le-mul_left, lt_of_le_of_lt, mul_assoc, mul_comm, mul_left_comm, mul-one, zero-mul, pow-suc, mod-eq_of_lt, div-one, arith, pow-add, pow_pos}
+use Rattle.std.proofs.Common.{
+  ap,
+  ap₂,
+  ◌∙◌,
+  sym,
+  subst,
+  add-mul,
+  mul-le-mul_left,
+  lt_of_le_of_lt,
+  mul_assoc,
+  mul_comm,
+  mul_left_comm,
+  mul-one,
+  zero-mul,
+  pow-suc,
+  mod-eq_of_lt,
+  div-one,
+  arith,
+  pow-add,
+  pow_pos,
+}
 use Rattle.std.specs.Int.{◌∣◌}
 use Rattle.std.proofs.Math.Nat.{
   min-eq_left,

@@ -340,7 +340,8 @@ four = collect writeCon (
     ∷ [])
 
 abbrev fourText : Bytes
-fourText = ascii "?x ~ [?y^(-2) * !a * #L^(-3/2)]\nFn[(!a, List<Bool>) -> []]: DType\n[#L^(3/10)] = Scalar\nHasField(@P<String>{a: DateTime, x: @L}, \"y\", ?z)\n"
+fourText = ascii "?x ~ [?y^(-2) * !a * #L^(-3/2)]\nFn[(!a, List<Bool>) -> []]: DType\n[#L^(3/10)] = Scalar\n"
+    ++ ascii "HasField(@P<String>{a: DateTime, x: @L}, \"y\", ?z)\n"
 
 -- what is written of a set's words
 abbrev shown : List ℕ → List Rec → Got Bytes
