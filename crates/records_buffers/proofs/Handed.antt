@@ -70,7 +70,7 @@ module _ (m : Got (List Rec)) (w : List ℕ) where
     unfolding resultAfter
     left k z i h c = let e = refused-before m length (number_of k) (subst (λ (a : Result ℕ Refusal). Made m w a) i h).answer in rw (e, c)
 
--- a call whose buffers are long enough, as the paper puts it together; and one whose buffers are not
+-- a call whose buffers are long enough, as the rules put it together; and one whose buffers are not
 module _ (room : Got (Unit {0})) (m : Got (List Rec)) (result work : List ℕ) where
   pub as_written : room ≡ got tt → handed m result work ≡ writing room m result work
   unfolding writing workAfter

@@ -13,6 +13,7 @@ use Rattle.rules.specs.Solving.{Answer}
 use Rattle.rules.specs.Batches.{cutSets, eachSolved, answeredWords, fourWords, recordsOf, batchLent, batchFits, writtenOver, batchCall}
 use Rattle.laws.specs.Answers.{words_of, manyOf}
 use Rattle.laws.proofs.Answers.{answer-long, four-long}
+use Rattle.solve_batch.specs.Theorems.{OnlyMoved}
 use Rattle.solve_batch.specs.Promise.{set_at, place_of, AsAlone}
 use Rattle.solve_batch.specs.Steps.{fourOf}
 
@@ -114,13 +115,10 @@ module _ (pool table words lengths result answers work : List ℕ) (met : batchL
       }
 
 -- two batches over one table that hold the same set tell the same of it
-pub moved : (pool table words lengths result answers work words' lengths' result' answers' work' : List ℕ) (i j : ℕ)
-    → batchLent pool table lengths result answers work ≡ got tt → batchFits words lengths ≡ got tt → i < length lengths
-    → batchLent pool table lengths' result' answers' work' ≡ got tt → batchFits words' lengths' ≡ got tt → j < length lengths'
-    → set_at words lengths i ≡ set_at words' lengths' j → (fresh w : List ℕ) → lent pool table fresh w ≡ got tt
-    → take 4 (drop (i * 4) (batchCall pool table words lengths result answers work).answers)
-    ≡ take 4 (drop (j * 4) (batchCall pool table words' lengths' result' answers' work').answers)
+pub moved : OnlyMoved
 moved pool table words lengths result answers work words' lengths' result' answers' work' i j m f h m' f' h' same fresh w room =
-    (by_itself pool table words lengths result answers work m f i h fresh w room).told
-    ∙ ap (λ (set : List ℕ). fourWords (solveCall pool table set fresh w).answer) same
-    ∙ sym (by_itself pool table words' lengths' result' answers' work' m' f' j h' fresh w room).told
+    let a = by_itself pool table words lengths result answers work m f i h fresh w room in
+    let b = by_itself pool table words' lengths' result' answers' work' m' f' j h' fresh w room in
+    let alone : solveCall pool table (set_at words lengths i) fresh w ≡ solveCall pool table (set_at words' lengths' j) fresh w =
+    ap (λ (set : List ℕ). solveCall pool table set fresh w) same in
+    (rw alone at a.told ∙ sym b.told, rw alone at a.written ∙ sym b.written)

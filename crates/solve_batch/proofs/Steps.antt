@@ -133,9 +133,6 @@ module _ (f : List ℕ → Got (Answer ℕ)) (words lengths : List ℕ) where
       abbrev next : List ℕ
       next = take (to - from) (drop from words)
 
-      pub to_inside : to ≤ length words
-      to_inside = omega (arith, d.sums, rest_sum lengths i more)
-
       rest-is : from_on from i ≡ f next ∷ from_on to (i + 1)
       unfolding cutSets
       rest-is =

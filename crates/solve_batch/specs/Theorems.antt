@@ -2,12 +2,12 @@
 -- rules' Batches and Calls, the proofs in proofs/Promise.
 use Rattle.std.specs.Prelude.{◌≡◌, List, ℕ, ◌*◌, ◌<◌, length, take, drop, Result}
 use Rattle.rules.specs.Base.{got}
-use Rattle.rules.specs.Calls.{lent}
+use Rattle.rules.specs.Calls.{lent, solveCall}
 use Rattle.rules.specs.Names.{table_of}
 use Rattle.rules.specs.Numbers.{number, batch}
 use Rattle.rules.specs.Refusals.{numberAnswer}
 use Rattle.rules.specs.declared.Refusal.{Refusal}
-use Rattle.rules.specs.Batches.{batchLent, batchFits, batchCall}
+use Rattle.rules.specs.Batches.{batchLent, batchFits, recordsOf, batchCall}
 use Rattle.solve_batch.specs.Promise.{set_at, place_of, AsAlone}
 use Rattle.solve_batch.specs.Told.{batchAs}
 
@@ -19,14 +19,18 @@ EachAsAlone = (pool table words lengths result answers work : List ℕ)
     → AsAlone pool table (set_at words lengths i) i (place_of (table_of pool table) words lengths i)
     (batchCall pool table words lengths result answers work).answers (batchCall pool table words lengths result answers work).result fresh w
 
--- the order of the sets, and what else is in a batch, only moves a set's answer: two batches over one table that hold the same set tell the same of it
+-- the order of the sets, and what else is in a batch, only moves a set's answer: two batches over one table that hold the same set tell the same of it, in four
+-- words and in its records
 abbrev pub OnlyMoved : Type 0
 OnlyMoved = (pool table words lengths result answers work words' lengths' result' answers' work' : List ℕ) (i j : ℕ)
     → batchLent pool table lengths result answers work ≡ got tt → batchFits words lengths ≡ got tt → i < length lengths
     → batchLent pool table lengths' result' answers' work' ≡ got tt → batchFits words' lengths' ≡ got tt → j < length lengths'
     → set_at words lengths i ≡ set_at words' lengths' j → (fresh w : List ℕ) → lent pool table fresh w ≡ got tt
-    → take 4 (drop (i * 4) (batchCall pool table words lengths result answers work).answers)
-    ≡ take 4 (drop (j * 4) (batchCall pool table words' lengths' result' answers' work').answers)
+    → let n = recordsOf (solveCall pool table (set_at words lengths i) fresh w).answer in
+    (take 4 (drop (i * 4) (batchCall pool table words lengths result answers work).answers)
+    ≡ take 4 (drop (j * 4) (batchCall pool table words' lengths' result' answers' work').answers))
+    × (take (n * 4) (drop (place_of (table_of pool table) words lengths i * 4) (batchCall pool table words lengths result answers work).result)
+    ≡ take (n * 4) (drop (place_of (table_of pool table) words' lengths' j * 4) (batchCall pool table words' lengths' result' answers' work').result))
 
 -- two results of the call are the same: the answer and every buffer
 pub record OneResult (a b : Result ℕ Refusal) (result result' answers answers' work work' : List ℕ) : Type 0 where

@@ -5,5 +5,4 @@ mod Quotient
 mod Rules
 mod Short
 mod Sizes
-pub mod Stepped
 mod Written

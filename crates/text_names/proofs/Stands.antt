@@ -22,10 +22,6 @@ same-refused {s} {r} {r'} {c} {c'} e f =
     let p : ◌≡◌ {A = At} (record { why = r; at = c }) (record { why = r'; at = c' }) = cc in
     (ap (λ (a : At). a.why) p, ap (λ (a : At). a.at) p)
 
-module _ {s : Stand} (k at : ℕ) where
-  pub count_fits : {f n : ℕ} → s ≡ Going f n → n + k ≤ 2048 → Going f (n + k) ≡ countOf k at s
-  count_fits {f} {n} e h = rw (e, le-leb (n + k) 2048 h)
-
 module _ (v : View) (s r : Stand) (d : List ℕ) where
   pub head-put : {d' : List ℕ} {k n i m : ℕ} → s ≡ Going k n → r ≡ Going i m → m ≤ 2048 → d' ≡ sets d (n * 4) (words (recOf v (fit (m - n)) ∷ []))
       → d' ≡ headPut v s r d

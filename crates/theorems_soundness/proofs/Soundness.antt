@@ -104,23 +104,13 @@ module _ (pool table set result work : List ℕ) (records bounds rounds : ℕ)
 
 -- ══ Instances ══
 
-pub k2-solved : Solves names k2 k2-bindings []
-k2-solved = accepted-true names held ordered k2 k2-given k2-bindings [] 1 k2-accepted k2-premise
-
 pub k5-solved : Solves names k5 k5-bindings []
 k5-solved = accepted-true names held ordered k5 k5-given k5-bindings [] 1 k5-accepted k5-premise
-
-pub k8-solved : Solves names k8 [] k8-bounds
-k8-solved = accepted-true names held ordered k8 k8-given [] k8-bounds 1 k8-accepted k8-premise
 
 -- K2's whole answer, (24,0,0,0)(4,0,0,0) with the lengths 2 and 1, is proposed by one entry: the variable 0, its type at the place 1
 pub k2-entries : pointed 0 (head 24 2 ∷ 0 ∷ 0 ∷ 0 ∷ head 4 1 ∷ 0 ∷ 0 ∷ 0 ∷ []) ≡ record { variable = 0; place = 1 } ∷ []
 unfolding pointed head kindIn
 k2-entries = refl
-
--- K10 doesn't meet the premise; it is accepted, but its answer is no solution
-pub k10-outside : ¬ (Premise names k10 k10-bindings)
-k10-outside = k10-no-premise
 
 pub k10-fails : Fails names k10 k10-bindings []
 k10-fails = no-fails names k10 k10-bindings [] k10-judged
