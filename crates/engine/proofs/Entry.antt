@@ -15,7 +15,7 @@ use Rattle.names.specs.declared.tables.NameTable.{NameTable}
 use Rattle.records.specs.Found.{Words32}
 use Rattle.records.specs.Good.{Chain, GoodCon}
 use Rattle.records.proofs.Whole.{set_is}
-use Rattle.types.specs.Given.{call_over, constraints_in}
+use Rattle.types.specs.Given.{call_over, constraints_in, entered}
 use Rattle.types.specs.Sets.{IsCons, Cons, one-set}
 use Rattle.types.specs.declared.GivenSet.{GivenSet}
 use Rattle.types.proofs.Entering as entering
@@ -24,7 +24,6 @@ use Rattle.types.proofs.GivenLists.{set-row}
 use Rattle.types.proofs.GivenSets.{Given}
 use Rattle.engine.specs.Reducing.{reduction}
 use Rattle.engine.specs.Told.{Answer, Answered, eliminationAs}
-use Rattle.engine.specs.Entry.{entered}
 
 -- ══ The checks of this call ══
 

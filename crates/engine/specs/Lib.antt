@@ -1,5 +1,4 @@
 pub mod Put
 pub mod Reducing
 pub mod Told
-pub mod Entry
 pub mod Theorems

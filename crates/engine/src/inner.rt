@@ -8,14 +8,13 @@ ghost use Rattle.rules.specs.Elimination.{◌gets◌, factors, boundBy, eliminat
 ghost use Rattle.exponents.specs.Answers.{expOf};
 ghost use Rattle.records.specs.Views.{recOf};
 ghost use Rattle.records.specs.Holds.{atomOf};
-ghost use Rattle.types.specs.Given.{call_over, constraints_in};
+ghost use Rattle.types.specs.Given.{call_over, constraints_in, entered};
 ghost use Rattle.types.specs.Written.{Writes};
 ghost use Rattle.engine_matrix.specs.Told.{row_in};
 ghost use Rattle.engine_matrix.specs.Machine.{colsIn, staying, bound, rest};
 ghost use Rattle.engine_rows.specs.Lines.{rowsOf};
 ghost use Rattle.engine.specs.Reducing.{SetHeld, reduction, settledIn, settledOf};
 ghost use Rattle.engine.specs.Told.{Answered};
-ghost use Rattle.engine.specs.Entry.{entered};
 ghost use Rattle.engine.specs.Put.{Factored};
 
 use super::Eliminated;

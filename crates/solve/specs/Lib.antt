@@ -1,4 +1,3 @@
 pub mod Told
 pub mod Running
-pub mod Entry
 pub mod Theorems

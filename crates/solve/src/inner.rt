@@ -11,8 +11,7 @@ ghost use Rattle.theorems_ending.proofs.Sets.{start};
 ghost use Rattle.solve_round.specs.States.{Placed};
 ghost use Rattle.solve.specs.Told.{toldSolution, refusedAs, Answered};
 ghost use Rattle.solve.specs.Running.{Begun};
-ghost use Rattle.solve.specs.Entry.{entered};
-ghost use Rattle.types.specs.Given.{call_over, constraints_in};
+ghost use Rattle.types.specs.Given.{call_over, constraints_in, entered};
 
 use super::Solution;
 use names::tables::NameTable;

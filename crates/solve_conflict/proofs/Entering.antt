@@ -12,9 +12,8 @@ use Rattle.rules.specs.declared.Refusal.{Refusal}
 use Rattle.rules.specs.declared.Refusal.TheVariants.{ShortBuffer}
 use Rattle.names.specs.Told.{unit_of}
 use Rattle.names.specs.declared.tables.NameTable.{NameTable}
-use Rattle.types.specs.Given.{call_over, constraints_in}
+use Rattle.types.specs.Given.{call_over, constraints_in, entered}
 use Rattle.types.specs.declared.GivenSet.{GivenSet}
-use Rattle.solve.specs.Entry.{entered}
 use Rattle.types.proofs.Entering.{came-in, kept_out, over_tested}
 use Rattle.solve_conflict.specs.Told.{FoundAs, conflictsAs}
 

@@ -20,7 +20,7 @@ use Rattle.queries.proofs.Runs.{set-small, set-opens}
 use Rattle.queries.specs.Scans.{opensIn}
 use Rattle.types.proofs.GivenSets.{Given, given-in}
 use Rattle.types.proofs.Tested.{kept, as-refused, past_table, tested}
-use Rattle.types.specs.Given.{over_table, call_over, constraints_in}
+use Rattle.types.specs.Given.{over_table, call_over, constraints_in, entered}
 use Rattle.types.specs.declared.GivenSet.{GivenSet}
 
 -- ══ A row of checks ══
@@ -36,10 +36,6 @@ module _ {A B : Type 0} (u : A → Got (Unit {0})) (g : A → Got B) where
       let inner : ((m >>= λ x. u x >> got x) >>= g) ≡ (m >>= λ a. u a >> g a) = bracket m (λ x. u x >> got x) g
       ∙ same_after m (λ x. (u x >> got x) >>= g) (λ a. u a >> g a) (λ a. bracket (u a) (λ _. got a) g) in
       ap (λ (r : Got B). s >> (k >> r)) (sym inner) ∙ past_table s k (m >>= λ x. u x >> got x) g h
-
--- a set that came in, or the refusal of the first check that isn't met: 8, the table's, 1, 4
-abbrev pub entered : Result NameTable Refusal → List ℕ → Got (List (Con ℕ))
-entered names ws = shortLists (ws ∷ []) >> over_table names (λ t. setGiven t ws >>= λ cs. apart t (collect opensCon cs) >> got cs)
 
 -- what is made of a set whose names are apart
 module _ {A : Type 0} (g : Table → List (Con ℕ) → Got A) where

@@ -1,10 +1,10 @@
 -- What a list that was tested comes to, over a name table that was tested before.
 use Rattle.std.specs.Prelude.{Result, Ok, Err, List, [], ◌∷◌, ℕ}
-use Rattle.rules.specs.Base.{Got, refused, ◌>>◌}
-use Rattle.rules.specs.Calls.{shortLists, setGiven, typeGiven, bindingsGiven}
+use Rattle.rules.specs.Base.{Got, got, refused, ◌>>=◌, ◌>>◌, collect}
+use Rattle.rules.specs.Calls.{shortLists, setGiven, typeGiven, bindingsGiven, apart}
 use Rattle.rules.specs.Names.{Table, table_of}
 use Rattle.rules.specs.Refusals.{number_of, told}
-use Rattle.rules.specs.Trees.{Binding, Con, Ty}
+use Rattle.rules.specs.Trees.{Binding, Con, Ty, opensCon}
 use Rattle.rules.specs.declared.Refusal.{Refusal}
 use Rattle.names.specs.declared.tables.NameTable.{NameTable}
 use Rattle.types.specs.declared.GivenBindings.{GivenBindings}
@@ -46,3 +46,7 @@ type_in t = t.whole.tree.0
 
 abbrev pub bindings_in : GivenBindings → List (Binding ℕ)
 bindings_in b = b.all.trees.0
+
+-- a set whose names are apart, as calls take it in: or the refusal of the first check that isn't met: 8, the table's, 1, 4
+abbrev pub entered : Result NameTable Refusal → List ℕ → Got (List (Con ℕ))
+entered names ws = shortLists (ws ∷ []) >> over_table names (λ t. setGiven t ws >>= λ cs. apart t (collect opensCon cs) >> got cs)
