@@ -1,6 +1,6 @@
 -- What follows from the definitions of specs/Well: factors that are well formed over a name table. An index may be any word: what holds
 -- with fewer quantified variables holds here.
-use Rattle.std.specs.Prelude.{◌≡◌, true, ℕ}
+use Rattle.std.specs.Prelude.{◌≡◌, true, List, ℕ}
 use Rattle.rules.specs.Names.{table_of, is_held}
 use Rattle.rules.specs.Trees.{Factor}
 use Rattle.rules.specs.WellFormed.{goodFactor}

@@ -15,28 +15,7 @@ use Rattle.theorems_soundness.proofs.Judged as Judged
 use Rattle.theorems_soundness.proofs.Words as Words
 use Rattle.theorems_soundness.proofs.Own as Own
 use Rattle.theorems_soundness.specs.Examples.{names, held, k10, k10-bindings}
-use Rattle.theorems_soundness.proofs.Instances.{
-  ordered,
-  k2,
-  k2-bindings,
-  k2-given,
-  k2-accepted,
-  k2-premise,
-  k5,
-  k5-bindings,
-  k5-given,
-  k5-accepted,
-  k5-premise,
-  k8,
-  k8-bounds,
-  k8-given,
-  k8-accepted,
-  k8-premise,
-  k10-given,
-  k10-accepted,
-  k10-no-premise,
-  k10-judged,
-}
+use Rattle.theorems_soundness.proofs.Instances.{ordered, k5, k5-bindings, k5-given, k5-accepted, k5-premise, k10-given, k10-accepted, k10-judged}
 
 -- ══ An accepted answer ══
 

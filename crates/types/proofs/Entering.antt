@@ -20,7 +20,7 @@ use Rattle.queries.proofs.Runs.{set-small, set-opens}
 use Rattle.queries.specs.Scans.{opensIn}
 use Rattle.types.proofs.GivenSets.{Given, given-in}
 use Rattle.types.proofs.Tested.{kept, as-refused, past_table, tested}
-use Rattle.types.specs.Given.{over_table, call_over, constraints_in, entered}
+use Rattle.types.specs.Given.{call_over, constraints_in, entered}
 use Rattle.types.specs.declared.GivenSet.{GivenSet}
 
 -- ══ A row of checks ══

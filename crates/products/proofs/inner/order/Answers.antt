@@ -1,5 +1,4 @@
 -- `products::inner::order` meets its contract: by the ranks of the kinds; where these are equal, by index or by name.
-use Rattle.std.specs.Prelude.{◌≡◌}
 use Rattle.std.proofs.Common.{sym, ◌∙◌, ap, ap₂}
 use Prim.Native.Nat.{compare}
 use borrow.Author.Tests.{eq-eqb, ne_eqb}
