@@ -217,7 +217,7 @@ impl Html {
 
     // The constraints that remain.
     fn remaining(&mut self, rows: &[&[u8]]) -> Result<(), AllocError> {
-        self.raw("<p>What remains, read as the contradiction:</p>\n<ul>\n")?;
+        self.raw("<p>What remains; no rule applies to these lines:</p>\n<ul>\n")?;
         for row in rows {
             self.raw("<li><code>")?;
             self.text(row)?;
