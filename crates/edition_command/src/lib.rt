@@ -72,7 +72,8 @@ fn line_on<R: AllocGlobal>(rt: &R, path: &str, what: &str) -> Result<String> {
     Ok(line)
 }
 
-// What is wrong with the file that an option names, if something is: it can't be opened by its name, or it is to be written and is a sheet.
+// What is wrong with the file that an option names, if something is: it can't be opened by its name, or it is to be written and is a sheet, or where
+// standard output goes.
 fn wrong_with<R: Files + AllocGlobal>(
     rt: &R,
     words: &Words,
@@ -94,6 +95,11 @@ fn wrong_with<R: Files + AllocGlobal>(
             rt,
             path,
             ": named as a sheet, and as the file to write",
+        )?)),
+        Some(output) if output.is_report(rt) => Ok(Some(line_on(
+            rt,
+            path,
+            ": the file to write, and standard output goes into it too",
         )?)),
         _ => Ok(None),
     }

@@ -61,6 +61,12 @@ impl<'a> Output<'a> {
         false
     }
 
+    /// Does standard output go into the file?
+    pub(crate) fn is_report<R: Files>(self, rt: &R) -> bool {
+        let ours = identity(rt, self.path());
+        ours.is_some() && identity(rt, "/dev/stdout") == ours
+    }
+
     // Does the file begin as what is written?
     fn begins_so<R: Files>(self, rt: &R) -> io::Result<bool> {
         let begins = match self {
