@@ -86,8 +86,8 @@ def tables(page):
             if word and "::" in it and (CRATES / head).is_dir():
                 crate, here = head, None
                 good = public(head, it.split("::")[-1]) if strict else item(head, it)
-            elif "/out/" in it:
-                continue  # what the kit makes
+            elif "/out/" in it or it.startswith("./"):
+                continue  # what the kit makes; a path that somebody types
             elif word and "/" in it and ((CRATES / head).is_dir() or (ROOT / head).exists()):
                 path, _, name = it.partition(".") if file_of(it) is None else (it, "", "")
                 here, crate = file_of(path), head
