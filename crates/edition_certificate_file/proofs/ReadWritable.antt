@@ -84,7 +84,7 @@ use Rattle.edition_certificate_file.specs.Theorems.{Written}
 use Rattle.edition_certificate_file.specs.Writable.{onOneLine, isDigest, linesIn, beginsBlank, nameOf, writable, allWritable}
 use Rattle.edition_certificate_file.proofs.Splitting.{Flat, neither, asLine}
 use Rattle.edition_certificate_file.proofs.Indented.{more-indented}
-use Rattle.edition_certificate_file.proofs.SheetLines.{is-digest}
+use Rattle.edition_certificate_file.proofs.SheetLines.{is-digest, sheet}
 use Rattle.edition_certificate_file.proofs.Leads.{same-refl}
 
 -- ══ What holds at each place ══
@@ -117,7 +117,7 @@ none-apart = refl
 
 -- ══ Between sheets ══
 
-later : {X : Type 0} (p : X → Bool) (n : ℕ) (xs : List X) → list_any p xs ≡ false → list_any p (drop n xs) ≡ false
+pub later : {X : Type 0} (p : X → Bool) (n : ℕ) (xs : List X) → list_any p xs ≡ false → list_any p (drop n xs) ≡ false
 later p zero xs h = h
 later p (suc n) [] h = h
 later p (suc n) (x ∷ xs) h = later p n xs (neither (p x) (list_any p xs) h).1
@@ -235,7 +235,7 @@ onto-flat : (b : ℕ) (lines : List Bytes) → lineFeed b ≡ false → Every Fl
 onto-flat b [] h flat = (rw h refl, tt)
 onto-flat b (line ∷ lines) h flat = (rw h flat.0, flat.1)
 
-cut-flat : (text : Bytes) → Every Flat (slice_split lineFeed text)
+pub cut-flat : (text : Bytes) → Every Flat (slice_split lineFeed text)
 cut-flat [] = (refl, tt)
 cut-flat (b ∷ text) = go (lineFeed b) refl (cut-flat text)
   where
@@ -289,3 +289,17 @@ pub read-only-writable : {E : Type 0} (text : Bytes) (ks : List Kept) (r : Resul
     → IfOk r (λ x. keptIn x ≡ certificateRead text) → IfOk r (λ x. keptIn x ≡ Ok ks → allWritable ks ≡ true)
 read-only-writable text ks (Ok x) h = λ same. (read-written text ks (sym h ∙ same)).1
 read-only-writable text ks (Err e) h = tt
+
+-- a sheet more, which is writable and whose name isn't there yet
+pub more-writable : (ks : List Kept) (k : Kept) → allWritable ks ≡ true → isKept k.name ks ≡ false → writable k ≡ true
+    → allWritable (ks ++ k ∷ []) ≡ true
+unfolding allWritable
+more-writable ks k all new w =
+    let both = and_parts (list_all writable ks) _ all in
+    let so-far : Sound ks = record { each = both.0; apart = both.1 } in
+    sound-writable (ks ++ k ∷ []) (sound-more ks k so-far (record { line = (sheet k w).name; new = new }) w)
+
+-- no sheet
+pub none-writable : allWritable [] ≡ true
+unfolding allWritable
+none-writable = rw none-apart refl

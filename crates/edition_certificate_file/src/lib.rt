@@ -174,8 +174,8 @@ enum Stage<'a> {
     Ended,
 }
 
-// Is a sheet of this name kept?
-fn is_kept(entries: &[Entry], name: &[u8]) -> bool
+/// Is a sheet of this name kept?
+pub fn is_kept(entries: &[Entry], name: &[u8]) -> bool
     ensures { result ≡ isKept name.now (map keptOf entries.now) }
 {
     for entry in entries {

@@ -1,1 +1,2 @@
 mod Edition
+mod LinesKept

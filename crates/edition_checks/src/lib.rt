@@ -6,6 +6,7 @@ pub mod alone;
 pub mod by_certificate;
 pub mod files;
 pub mod front;
+pub mod keeping;
 pub mod status;
 pub mod tables;
 #[cfg(test)]
