@@ -1,11 +1,13 @@
 -- What is kept of sheets for a certificate: lines made from a page, and a sheet more.
-use Rattle.std.specs.Prelude.{◌≡◌, if◌then◌else◌, eqb, List, [], ◌∷◌, ◌++◌, drop, map, Option, None, Some}
-use Rattle.std.specs.List.{starts_with, slice_split}
+use Rattle.std.specs.Prelude.{◌≡◌, Bool, ◌&&◌, if◌then◌else◌, eqb, ℕ, List, [], ◌∷◌, ◌++◌, drop, map, Option, None, Some}
+use lib.Pointwise.{pointwise}
+use Rattle.std.specs.List.{starts_with, slice_split, list_any}
+use Rattle.sha2.specs.Sha256.{sha256}
 use Rattle.rules.specs.Base.{collect}
 use Rattle.rules.specs.Grammar.{ascii}
 use Rattle.rules.specs.Names.{Bytes}
 use Rattle.edition_certificate_file.specs.declared.Entry.{Entry}
-use Rattle.edition_certificate_file.specs.Files.{keptOf}
+use Rattle.edition_certificate_file.specs.Files.{Kept, keptOf, writtenName}
 use Rattle.edition_certificate_file.specs.Reading.{isKept, lineFeed}
 use Rattle.edition_certificate_file.specs.Writable.{beginsBlank, indentedLine}
 use Rattle.edition_certified.specs.declared.Verdict.{Verdict}
@@ -37,3 +39,10 @@ pub record Added (name text lines : Bytes) (old new : List Entry) : Type 0 where
 abbrev pub IsAdded : Bytes → Bytes → Bytes → List Entry → List Entry → Option Verdict → Type 0
 IsAdded name text lines old new None = Added name text lines old new
 IsAdded name text lines old new (Some v) = (new ≡ old) × NotKept text lines v
+
+-- what is kept is a file's: it has its name as it is written, and the digest of its bytes
+abbrev pub isFile : Bytes → List ℕ → Kept → Bool
+isFile name digest k = pointwise eqb k.name name && pointwise eqb k.digest digest
+
+abbrev pub holdsFile : Bytes → Bytes → List Entry → Bool
+holdsFile name text es = list_any (isFile (writtenName name) (sha256 text)) (map keptOf es)

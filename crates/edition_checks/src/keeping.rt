@@ -1,14 +1,16 @@
 // What is kept of accepted sheets, and its certificate, which is read back.
 ghost use Rattle.std.specs.Prelude.{◌≡◌, ◌++◌, true, [], map, Ok, IfOk, OnOk};
+ghost use Rattle.std.specs.List.{list_any};
 ghost use Rattle.edition_certificate_file.specs.Files.{keptOf, certificateText};
 ghost use Rattle.edition_certificate_file.specs.Reading.{certificateRead};
 ghost use Rattle.edition_certificate_file.specs.Writable.{allWritable, isIndented};
-ghost use Rattle.edition_checks.specs.Keeping.{certifiedLine, certifiedLines, IsAdded};
+ghost use Rattle.edition_checks.specs.Keeping.{certifiedLine, certifiedLines, IsAdded, isFile, holdsFile};
 
 use edition_certificate_file::theorems::kept_is_writable;
-use edition_certificate_file::{Entry, certificate_text, is_kept};
+use edition_certificate_file::{Entry, certificate_text, is_kept, written_name};
 use edition_certified::Verdict;
 use edition_verify::keep;
+use sha2::{Digest, Sha256};
 use std::alloc::{AllocError, Global};
 
 // Of a page's line that begins with two blanks the line of a certificate. A page shows a bound without a mark, and a certificate has one there; a line that
@@ -37,6 +39,25 @@ pub fn certified_lines(alloc: Global, page: &[u8]) -> Result<Vec<u8>, AllocError
     Ok(lines)
 }
 
+// Is this what is kept of a file with this name and this digest?
+fn is_of(entry: &Entry, name: &[u8], digest: &[u8; 32]) -> bool
+    ensures { result ≡ isFile name.now digest.now (keptOf entry.now) }
+{
+    entry.name.as_slice() == name && entry.digest == *digest
+}
+
+// Is there one of a file with this name and this digest?
+fn is_one_of(entries: &[Entry], name: &[u8], digest: &[u8; 32]) -> bool
+    ensures { result ≡ list_any (isFile name.now digest.now) (map keptOf entries.now) }
+{
+    for entry in entries {
+        if is_of(entry, name, digest) {
+            return true;
+        }
+    }
+    false
+}
+
 /// What is kept of sheets: of no two with one name, and each so that it is read back.
 #[derive(Drop)]
 pub struct Keeping {
@@ -54,8 +75,8 @@ impl Keeping {
         }
     }
 
-    /// Adds a sheet that is accepted, by its file's name, its bytes and its page: once, since a file that was named before is there already. What is judged of
-    /// the page's lines, if they don't make its constraints true.
+    /// Adds a sheet that is accepted, by its file's name, its bytes and its page: once: one of its name that is there
+    /// already stays, and `holds` says whether that has its bytes. What is judged of the page's lines, if they don't make its constraints true.
     pub fn add(
         &mut self,
         alloc: Global,
@@ -77,6 +98,15 @@ impl Keeping {
         kept_is_writable(&entry);
         self.entries.push(entry)?;
         Ok(None)
+    }
+
+    /// Is this file kept: a sheet of its name, with its bytes?
+    pub fn holds(&self, alloc: Global, name: &[u8], text: &[u8]) -> Result<bool, AllocError>
+        ensures { IfOk result (λ b. b ≡ holdsFile name.now text.now self.now.entries.items) }
+    {
+        let named = written_name(alloc, name)?;
+        let digest = Sha256::digest(text);
+        Ok(is_one_of(&self.entries, &named, &digest))
     }
 
     /// They as a certificate: its text, of which `edition_certificate_file::read_certificate` reads just what is kept.
