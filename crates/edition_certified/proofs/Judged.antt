@@ -72,7 +72,6 @@ was-yes (got false) e = absurd (cc)
 was-yes (refused n) e = absurd (cc)
 
 module _ (p t set : List ℕ) (v : Vec ℕ Global) where
-
   pub lines-true : Words32 v.items → (m : Sheet) → Kept p t (Ok v) m → (x : Verdict) → said x ≡ saidOf (verified p t set v.items) → LinesAreTrue set m x
   lines-true w (sheet ds s) h x e = λ i. record {
     ds = ds;

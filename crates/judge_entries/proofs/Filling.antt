@@ -31,7 +31,6 @@ bit-no None e = refl
 bit-no (Some p) e = absurd (true≢false (sym e))
 
 module _ (pool table types : List ℕ) (x : ℕ) where
-
   -- whether a type starts at the place of a held name decides
   module _ (place : ℕ) where
     pub word-there : (r : Option ℕ) → x < get_or table 0 0 → Ends (GoodTy pool table 0 types 64 place) r → is_some r ≡ true

@@ -121,4 +121,6 @@ moved pool table words lengths result answers work words' lengths' result' answe
     let b = by_itself pool table words' lengths' result' answers' work' m' f' j h' fresh w room in
     let alone : solveCall pool table (set_at words lengths i) fresh w ≡ solveCall pool table (set_at words' lengths' j) fresh w =
     ap (λ (set : List ℕ). solveCall pool table set fresh w) same in
-    (rw alone at a.told ∙ sym b.told, rw alone at a.written ∙ sym b.written)
+    let told = (rw (← alone) at b.told) in
+    let written = (rw (← alone) at b.written) in
+    (a.told ∙ sym told, a.written ∙ sym written)
