@@ -11,6 +11,7 @@ mod listing;
 mod notes;
 mod options;
 mod output;
+mod structs;
 mod together;
 mod told;
 mod verify;

@@ -1,6 +1,8 @@
 // Notes on an edition: what a person should look at, though no verdict rests on it.
+use crate::structs::{Structs, Written};
 use anyhow::Result;
-use edition::model::File;
+use edition::model::{File, Room};
+use edition_checks::tables::Tables;
 use edition_look_alikes::{alike_pairs, has_format, with_format};
 use edition_report::lines::constraint_line;
 use names::inner::count;
@@ -50,6 +52,35 @@ impl Notes {
             if has_control(name) && !has_format(name) {
                 self.push_unseen(name, files)?;
             }
+        }
+        self.add_structs(alloc, files)
+    }
+
+    // Adds those on structs that are written with other fields under one name: the files are read once more for it.
+    fn add_structs(&mut self, alloc: Global, files: &[File]) -> Result<()> {
+        let mut tables = Tables::new(alloc)?;
+        let mut room = Room::new();
+        let sheets = tables.read(alloc, files, &mut room)?;
+        let names = tables.names()?;
+        for told in &Structs::of(alloc, &sheets)?.differing {
+            self.text.push_str(
+                "note: a struct is written with other fields under the same name\n  ",
+            )?;
+            push_spelled(&mut self.text, names.name(told.name))?;
+            self.push_place(files, told.first, ':')?;
+            self.push_place(files, told.other, ',')?;
+            self.text.push('\n')?;
+            self.count = self.count.saturating_add(1);
+        }
+        Ok(())
+    }
+
+    // Where a struct is written, behind a mark.
+    fn push_place(&mut self, files: &[File], place: Written, mark: char) -> Result<()> {
+        if let Some(file) = files.get(place.sheet) {
+            write!(self.text, "{mark} ")?;
+            push_shown(&mut self.text, file.name)?;
+            write!(self.text, ":{}", place.line)?;
         }
         Ok(())
     }

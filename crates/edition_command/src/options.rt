@@ -91,7 +91,7 @@ const AFTER: &str =
 All sheets share one table of 256 names; --separate gives each a table of its own, 256 names a sheet in place of 256 an edition.
 
 A page begins with the file's name, and the place where one is known, NAME:LINE:COLUMN:. \
-Notes on standard error (names that look alike, sheets without a constraint) are no part of a verdict; \
+Notes on standard error (names that look alike, structs whose fields differ, sheets without a constraint) are no part of a verdict; \
 with --separate names of different sheets are not compared.
 
 A FILE of --certificate or --html is made anew only where it isn't there, is empty, or is such a file already; a sheet is never overwritten.
