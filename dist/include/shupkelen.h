@@ -52,7 +52,7 @@ enum shupkelen_refusal {
     SHUPKELEN_ACCEPTED = 0,
     SHUPKELEN_MALFORMED = 1,      /* a table, list, product or exponent that is not well formed */
     SHUPKELEN_NAME_LENGTH = 2,    /* a name of no byte, or of over 48 */
-    SHUPKELEN_NO_ROOM = 3,        /* no room for a name; a number that no name has, where it is asked for or lent (1 in contains, quantify, instantiate) */
+    SHUPKELEN_NO_ROOM = 3,        /* no room for a name; a number that no name has, where it is asked for or lent (1 in contains, quantify, instantiate, judge) */
     SHUPKELEN_MIXED = 4,          /* one name is both a variable and a parameter; a name lent for a line is given twice or used in it */
     SHUPKELEN_UNSOLVED = 5,       /* no rule applies and constraints remain */
     SHUPKELEN_NOT_DIMENSION = 6,  /* a type that is no dimension would enter a product */
@@ -266,7 +266,8 @@ uint32_t shupkelen_solve(const uint8_t *pool, size_t pool_len, const uint32_t *t
 
 /* Solves a set, and answers only what the judge confirms over the same set: what is answered makes every constraint of the set true, whatever the set. The call
  * to use where somebody relies on an answer. It writes and says what shupkelen_solve does, and refuses as it does; then, of what solving accepts, with 7 or 8
- * where the judge meets them, and with 11 for its no. result is then as before; the rounds are those of solving. */
+ * where the judge meets them, and with 11 for its no. result is then as before; the rounds are those of solving. Two structs of one name and the same arguments
+ * are the same type, whatever fields they have. */
 uint32_t shupkelen_confirm(const uint8_t *pool, size_t pool_len, const uint32_t *table, size_t table_len, const uint32_t *set, size_t set_len, uint32_t *result,
     size_t result_len, uint32_t *work, size_t work_len, uint32_t *answer, size_t answer_len);
 
@@ -286,7 +287,7 @@ uint32_t shupkelen_eliminate(const uint8_t *pool, size_t pool_len, const uint32_
 
 /* Is this a solution of the set, whoever proposed it? Entries are pairs of words: a variable's number, and the place of its type in types, in records; an odd
  * last word is not looked at. bounds has records of bounds. Says 1 for yes and 0 for no, and returns 0 for a no, too; the work buffer is left all zero. Refuses
- * with 10, 8 (over 2,048 pairs, too), 1, 4, then 7 and 8. */
+ * with 10, 8 (over 2,048 pairs, too), 1 (an entry's number that no name has, too), 4, then 7 and 8. */
 uint32_t shupkelen_judge(const uint8_t *pool, size_t pool_len, const uint32_t *table, size_t table_len, const uint32_t *set, size_t set_len,
     const uint32_t *entries, size_t entries_len, const uint32_t *types, size_t types_len, const uint32_t *bounds, size_t bounds_len, uint32_t *work,
     size_t work_len, uint32_t *answer, size_t answer_len);
@@ -300,18 +301,18 @@ uint32_t shupkelen_check_line(const uint8_t *pool, size_t pool_len, const uint32
     size_t result_len, uint32_t *work, size_t work_len, uint32_t *answer, size_t answer_len);
 
 /* A scheme from a type and bounds: the handed names, numbers in names, become indices 0, 1, .. in their order. At the front of result; says how many records.
- * Refuses with 10, 8, 1, 4, 9, then 6, 7 and 8. */
+ * Refuses with 10, 8, 1 (a handed number that no name has, too), 4, then 8 of a scheme of over 2,048 records. */
 uint32_t shupkelen_quantify(const uint8_t *pool, size_t pool_len, const uint32_t *table, size_t table_len, const uint32_t *words, size_t words_len,
     const uint32_t *bounds, size_t bounds_len, const uint32_t *names, size_t names_len, uint32_t *result, size_t result_len, uint32_t *work, size_t work_len,
     uint32_t *answer, size_t answer_len);
 
 /* The scheme generalised: of a concrete type all names are quantified, with those of the bounds that are among them; another scheme stays. At the front of
- * result; says how many records. Refuses with 10, 8, 1, 4, then 6, 7 and 8. */
+ * result; says how many records. Refuses with 10, 8, 1, 4, then 8 of a scheme of over 2,048 records. */
 uint32_t shupkelen_generalise(const uint8_t *pool, size_t pool_len, const uint32_t *table, size_t table_len, const uint32_t *scheme, size_t scheme_len,
     const uint32_t *bounds, size_t bounds_len, uint32_t *result, size_t result_len, uint32_t *work, size_t work_len, uint32_t *answer, size_t answer_len);
 
 /* The type and then the bounds of a scheme, with the handed names in the place of its indices. At the front of result; says how many records. Refuses with 10,
- * 8, 1, 4, 9 (as many names as the scheme has must be handed), then 6, 7 and 8. */
+ * 8, 1 (a handed number that no name has, too), 4, 9 (as many names as the scheme has must be handed), then 7. */
 uint32_t shupkelen_instantiate(const uint8_t *pool, size_t pool_len, const uint32_t *table, size_t table_len, const uint32_t *scheme, size_t scheme_len,
     const uint32_t *names, size_t names_len, uint32_t *result, size_t result_len, uint32_t *work, size_t work_len, uint32_t *answer, size_t answer_len);
 /* end */
