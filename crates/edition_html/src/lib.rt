@@ -1,25 +1,13 @@
 //! Text as it stands in a page of HTML: whatever it holds, no byte of it is taken for markup, in an element or in a quoted attribute.
 #![tactic(auto)]
 
-ghost use Rattle.std.specs.Prelude.{◌≡◌, ◌<◌};
+ghost use Rattle.std.specs.Prelude.{◌≡◌};
 ghost use Rattle.rules.specs.Base.{collect};
-ghost use Rattle.rules.specs.TextWriting.{hexDigit};
 ghost use Rattle.text_spell.specs.Sinks.{Puts};
 ghost use Rattle.edition_html.specs.Pages.{NoMarkup, pageByte};
 
+use text_spell::inner::hex_digit;
 use text_spell::sink::Sink;
-
-// A hex digit in small letters.
-#[tactic(auto, unfolding(rules::specs::TextWriting::hexDigit))]
-fn hex_digit(n: u8) -> u8
-    requires { n < 16 }
-    ensures { result ≡ hexDigit n }
-{
-    match n {
-        0..=9 => b'0' + n,
-        _ => b'a' - 10 + n,
-    }
-}
 
 // Puts a byte of a text.
 #[tactic(auto, unfolding(crate::specs::Pages::pageByte))]

@@ -1,16 +1,18 @@
 //! Names, numbers and powers as text: which bytes stand for themselves, and how all are put into a sink.
 #![tactic(auto)]
 
+pub mod inner;
 pub mod sink;
 
-ghost use Rattle.std.specs.Prelude.{◌≡◌, ◌<◌};
+ghost use Rattle.std.specs.Prelude.{◌≡◌};
 ghost use Rattle.rules.specs.Exponents.{frac};
 ghost use Rattle.rules.specs.Grammar.{is_plain};
 ghost use Rattle.rules.specs.Writing.{signed};
-ghost use Rattle.rules.specs.TextWriting.{hexDigit, escaped, nameText, decimal, numeratorText, denominatorText, powerText};
+ghost use Rattle.rules.specs.TextWriting.{escaped, nameText, decimal, numeratorText, denominatorText, powerText};
 ghost use Rattle.text_spell.specs.Sinks.{Puts};
 
 use exponents::Exponent;
+use inner::hex_digit;
 use sink::Sink;
 
 /// Does this byte stand for itself in a name?
@@ -19,18 +21,6 @@ pub fn is_plain(b: u8) -> bool
     ensures { result ≡ is_plain b }
 {
     matches!(b, b'A'..=b'Z' | b'a'..=b'z' | b'0'..=b'9' | b'_' | 128..)
-}
-
-/// A hex digit in small letters.
-#[tactic(auto, unfolding(rules::specs::TextWriting::hexDigit))]
-pub fn hex_digit(n: u8) -> u8
-    requires { n < 16 }
-    ensures { result ≡ hexDigit n }
-{
-    match n {
-        0..=9 => b'0' + n,
-        _ => b'a' - 10 + n,
-    }
 }
 
 /// Puts a byte of a name, escaped where it can't stand for itself.
