@@ -9,13 +9,13 @@ use native.Mathlib.Omega.{arith}
 use Rattle.std.proofs.Math.Nat.{zero-add}
 use Rattle.std.proofs.Math.ListN.{length, take, drop, get_or, replicate, length-append, length-replicate}
 use Rattle.std.proofs.Math.Seq.{take_at, take-take, length-take-le}
-use Rattle.rules.specs.Base.{any, collect}
+use Rattle.rules.specs.Base.{any, collect, oneIf}
 use Rattle.rules.specs.Calls.{over}
 use Rattle.rules.specs.Names.{Bytes, table_of, names_of, held, used, cut, lengthsGood, sameBytes, distinct}
 use Rattle.laws.specs.Lists.{Every, and_left, and_right}
 use Rattle.laws.specs.NameTable.{Good, good-laid, good-is, good-distinct, length-names, endsOf, count-is}
 use Rattle.laws.proofs.NameTable.{ends-are, lengths-step, lengths-within, used-is, used-within}
-use Rattle.rules.specs.Compaction.{oneIf, newNumber, consIf, keptFrom, joined, endsFrom, poolOf, endsOver}
+use Rattle.rules.specs.Compaction.{newNumber, consIf, keptFrom, joined, endsFrom, poolOf, endsOver}
 use Rattle.compaction.proofs.Moves.{ends-many}
 
 pool-front : (pool table : List ℕ) → (table_of pool table).pool ≡ take 8192 pool

@@ -49,7 +49,6 @@ use Rattle.std.proofs.Common.{
   drop-set-lt,
   take-add,
 }
-use Rattle.std.specs.Int.{from_bool}
 use Rattle.std.proofs.Math.Bool.{or-true, or-false}
 use Rattle.std.proofs.lemmas.Bool.{eqb-false}
 use Rattle.std.proofs.Math.Numerals.{add-two, add-three}
@@ -58,7 +57,8 @@ use Rattle.std.proofs.lemmas.List.{take-set-le, drop-set-add}
 use Rattle.rules.specs.Offices.{namesOne}
 use Rattle.rules.specs.Writing.{kindIn}
 use Rattle.compaction.specs.Told.{marks, Noted, Numbered}
-use Rattle.rules.specs.Compaction.{occurs, keeps, oneIf, newNumber, renumberIf, renumbered}
+use Rattle.rules.specs.Base.{oneIf}
+use Rattle.rules.specs.Compaction.{occurs, keeps, newNumber, renumberIf, renumbered}
 
 -- ══ The next record ══
 
@@ -129,11 +129,6 @@ mark-end s n j m h i = ap (λ (b : Bool). marks m i || (ltb i n && b)) (occurs-s
     ∙ none_here (marks m i) (ltb i n)
 
 -- ══ New numbers ══
-
--- a mark as a number is what it counts
-pub mark-counts : (b : Bool) {k : ℕ} → k ≡ from_bool b → (k ≡ oneIf b) × (k ≤ 1)
-mark-counts true e = (e, omega (arith, e))
-mark-counts false e = (e, omega (arith, e))
 
 pub number-next : (p : ℕ → Bool) (i : ℕ) → newNumber p (i + 1) ≡ newNumber p i + oneIf (p i)
 unfolding newNumber

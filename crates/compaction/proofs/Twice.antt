@@ -8,7 +8,7 @@ use Prim.Native.Nat.{ℕ, zero, suc, ◌+◌, ◌*◌, ◌-◌, ◌<◌}
 use native.Mathlib.Omega.{arith}
 use Rattle.std.proofs.Math.Dec.{eqb}
 use Rattle.std.proofs.Math.ListN.{length-drop}
-use Rattle.rules.specs.Base.{Got, got, refused, ◌>>◌, sum_of}
+use Rattle.rules.specs.Base.{Got, got, refused, ◌>>◌, oneIf, sum_of}
 use Rattle.rules.specs.Batches.{cutSets}
 use Rattle.rules.specs.Calls.{over, setGiven}
 use Rattle.rules.specs.Names.{Bytes, Table, table_of, names_of, held, used, is_held}
@@ -22,7 +22,6 @@ use Rattle.laws.specs.ReadLists.{Words}
 use Rattle.theorems_offices.proofs.Given.{set_given}
 use Rattle.rules.specs.Compaction.{
   Compacted,
-  oneIf,
   occurs,
   keeps,
   newNumber,

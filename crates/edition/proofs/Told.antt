@@ -2,9 +2,9 @@
 use Rattle.std.specs.Prelude.{◌≡◌, refl, Bool, true, false, List, [], ◌∷◌, ◌++◌, ℕ, ◌+◌, ◌≤◌, ◌<◌, length, take, drop, get_or, Result, Ok, Err, IsErr}
 use Rattle.std.proofs.Common.{sym, ap, subst, ◌∙◌, arith, append-nil, append_assoc}
 use Rattle.std.proofs.lemmas.List.{take_all}
-use Rattle.rules.specs.Base.{collect}
+use Rattle.rules.specs.Base.{collect, oneIf}
 use Rattle.rules.specs.Names.{Bytes, Table, table_of}
-use Rattle.rules.specs.Reports.{Page, Edition, editionShown, pageShown, acceptedIn, oneIf, isAccepted, findingOf, totalText}
+use Rattle.rules.specs.Reports.{Page, Edition, editionShown, pageShown, acceptedIn, isAccepted, findingOf, totalText}
 use Rattle.rules.specs.declared.Shown.{Shown}
 use Rattle.laws.proofs.Contents.{collect-append}
 use Rattle.laws.proofs.Lists.{true≢false}
@@ -112,6 +112,3 @@ module _ (why : Bool) (shown : Shown) (pool table : List ℕ) (xs : List Sheet) 
       → Puts old (editionTold why shown e) r mid
   whole-cut a r i = rw (told-is why shown e, ← w.pools, ← w.tables) (cut _ r i a)
 
-pub one-small : (b : Bool) → oneIf b ≤ 1
-one-small true = omega arith
-one-small false = omega arith

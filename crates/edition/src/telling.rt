@@ -2,7 +2,7 @@
 ghost use Rattle.std.specs.Prelude.{◌≡◌, IfOk, List, ℕ};
 ghost use Rattle.rules.specs.Base.{collect};
 ghost use Rattle.rules.specs.Names.{Bytes, table_of};
-ghost use Rattle.rules.specs.Reports.{Finding, Page as PageRead, acceptedIn, findingOf, isAccepted, oneIf, pageShown, shownWhere};
+ghost use Rattle.rules.specs.Reports.{Finding, Page as PageRead, acceptedIn, findingOf, isAccepted, pageShown, shownWhere};
 ghost use Rattle.edition_report.specs.Found.{IsFinding};
 ghost use Rattle.text_spell.specs.Sinks.{Puts};
 ghost use Rattle.edition.specs.Files.{HoldsAll, IsSheet};
@@ -82,13 +82,6 @@ pub fn tell_sheet<S: Sink>(
     Ok(outcome)
 }
 
-// One where a sheet is accepted.
-fn one_if(accepted: bool) -> usize
-    ensures { result ≡ oneIf accepted }
-{
-    if accepted { 1 } else { 0 }
-}
-
 // Tells a sheet, and why it isn't accepted, if that is asked for. Is it accepted?
 fn tell_asked<S: Sink>(
     names: NameTable,
@@ -127,7 +120,7 @@ pub fn tell_each<S: Sink>(
     let mut accepted = 0;
     for sheet in sheets {
         let yes = tell_asked(names, how, sheet, room, to)?;
-        accepted += one_if(yes);
+        accepted += usize::from(yes);
     }
     Ok(accepted)
 }

@@ -5,15 +5,16 @@ use Rattle.std.proofs.Common.{sym, ap, ◌∙◌, arith, append-nil, append_asso
 use Rattle.std.specs.Prelude.{nat_eq}
 use Rattle.std.specs.Cmp.Lexicographic.{pointwise, same_text, other_text}
 use Rattle.std.proofs.lemmas.List.{at_drop_more, at_drop_all, length-map}
-use Rattle.rules.specs.Base.{any, collect}
+use Rattle.rules.specs.Base.{any, collect, oneIf}
 use Rattle.rules.specs.Names.{Bytes, sameBytes}
 use Rattle.laws.specs.Lists.{Every}
 use Rattle.laws.specs.NameTable.{same-yes}
 use Rattle.laws.proofs.NameTable.{same-no}
+use Rattle.laws.proofs.Numbers.{one_at_most}
 use Rattle.edition.specs.Files.{files_of}
 use Rattle.edition.specs.declared.model.File.{File}
 use Rattle.edition_certificate_file.specs.declared.Entry.{Entry}
-use Rattle.edition_verify.specs.Verifying.{CertifiedBy, Had, TrueBy, YesIsTrue, findEntry, isNamed, isYes, one, word, wordBy, wordOf}
+use Rattle.edition_verify.specs.Verifying.{CertifiedBy, Had, TrueBy, YesIsTrue, findEntry, isNamed, isYes, word, wordBy, wordOf}
 use Rattle.edition_verify.specs.Verifying.{fileText, otherText, othersIn, verifiedIn}
 use Rattle.edition_verify.specs.declared.Answer.{Answer}
 use Rattle.edition_certificate_file.specs.Files.{writtenName}
@@ -108,26 +109,22 @@ module _ {E : Type 0} (es : List Entry) (h : Had) (e : Entry) where
   yes-true (Ok a) f i t = λ y. record { entry = e; kept = f; certified = t (ap isYes i ∙ rw f at y) }
   yes-true (Err z) f i t = tt
 
-one-small : (b : Bool) → one b ≤ 1
-one-small true = omega arith
-one-small false = omega arith
-
 module _ (es : List Entry) (fs : List File) (old : Bytes) where
   pub file-told : {mid new : Bytes} (i n : ℕ) (x d : File) → i < length fs → x ≡ get_or fs i d
       → SoFar (λ (xs : List File). collect (fileText es) (files_of xs)) (λ (xs : List File). verifiedIn es (files_of xs)) fs i n old mid
       → (b : Bool) → b ≡ isYes (wordOf es (had x)) → new ≡ mid ++ fileText es (had x)
-      → SoFar (λ (xs : List File). collect (fileText es) (files_of xs)) (λ (xs : List File). verifiedIn es (files_of xs)) fs (i + 1) (n + one b) old new
+      → SoFar (λ (xs : List File). collect (fileText es) (files_of xs)) (λ (xs : List File). verifiedIn es (files_of xs)) fs (i + 1) (n + oneIf b) old new
   unfolding collect had
   file-told i n x d h q s b y t = one-told (λ (xs : List File). collect (fileText es) (files_of xs)) (λ (xs : List File). verifiedIn es (files_of xs)) fs old
-      i n x d h q s (fileText es (had x)) (λ r. refl) (one b) (λ r. rw y refl) (one-small b) t
+      i n x d h q s (fileText es (had x)) (λ r. refl) (oneIf b) (λ r. rw y refl) (one_at_most b) t
 
 module _ (hs : List Had) (es : List Entry) (old : Bytes) where
   pub other-told : {mid new : Bytes} (i n : ℕ) (x : Entry) → i < length es → x ≡ get_or es i x
       → SoFar (collect (otherText hs)) (othersIn hs) es i n old mid → (b : Bool) → b ≡ isNamed hs x → new ≡ mid ++ otherText hs x
-      → SoFar (collect (otherText hs)) (othersIn hs) es (i + 1) (n + one (not b)) old new
+      → SoFar (collect (otherText hs)) (othersIn hs) es (i + 1) (n + oneIf (not b)) old new
   unfolding collect
-  other-told i n x h q s b y t = one-told (collect (otherText hs)) (othersIn hs) es old i n x x h q s (otherText hs x) (λ r. refl) (one (not b))
-      (λ r. rw y refl) (one-small (not b)) t
+  other-told i n x h q s b y t = one-told (collect (otherText hs)) (othersIn hs) es old i n x x h q s (otherText hs x) (λ r. refl) (oneIf (not b))
+      (λ r. rw y refl) (one_at_most (not b)) t
 
 -- where as many are verified as there are files, all of them are
 module _ (es : List Entry) where
@@ -135,7 +132,7 @@ module _ (es : List Entry) where
   at-most [] = omega arith
   at-most (h ∷ hs) = go (isYes (wordOf es h)) (at-most hs)
     where
-      go : (b : Bool) → verifiedIn es hs ≤ length hs → one b + verifiedIn es hs ≤ length (h ∷ hs)
+      go : (b : Bool) → verifiedIn es hs ≤ length hs → oneIf b + verifiedIn es hs ≤ length (h ∷ hs)
       go true k = omega (arith, k)
       go false k = omega (arith, k)
 
@@ -143,7 +140,7 @@ module _ (es : List Entry) where
   all-yes [] k n = tt
   all-yes (h ∷ hs) k n = go (isYes (wordOf es h)) refl n (all-yes hs k.1)
     where
-      go : (b : Bool) → isYes (wordOf es h) ≡ b → length (h ∷ hs) ≤ one b + verifiedIn es hs → (length hs ≤ verifiedIn es hs → Every (TrueBy es) hs)
+      go : (b : Bool) → isYes (wordOf es h) ≡ b → length (h ∷ hs) ≤ oneIf b + verifiedIn es hs → (length hs ≤ verifiedIn es hs → Every (TrueBy es) hs)
           → Every (TrueBy es) (h ∷ hs)
       go true e n r = (k.0 e, r (omega (arith, n)))
       go false e n r = let m = at-most hs in absurd (omega (arith, m, n))
@@ -157,6 +154,6 @@ module _ (hs : List Had) where
   few-others [] = omega arith
   few-others (e ∷ es) = go (not (isNamed hs e)) (few-others es)
     where
-      go : (b : Bool) → othersIn hs es ≤ length es → one b + othersIn hs es ≤ length (e ∷ es)
+      go : (b : Bool) → othersIn hs es ≤ length es → oneIf b + othersIn hs es ≤ length (e ∷ es)
       go true k = omega (arith, k)
       go false k = omega (arith, k)

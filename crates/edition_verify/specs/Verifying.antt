@@ -24,7 +24,7 @@ use Rattle.std.specs.Prelude.{
   Err,
 }
 use Rattle.sha2.specs.Sha256.{sha256}
-use Rattle.rules.specs.Base.{any, collect, sum_of}
+use Rattle.rules.specs.Base.{any, collect, oneIf, sum_of}
 use Rattle.rules.specs.Grammar.{ascii}
 use Rattle.rules.specs.Names.{Bytes, sameBytes}
 use Rattle.rules.specs.Reports.{amount, quantity, refusedText, shown, unseenText}
@@ -157,15 +157,11 @@ lastText sheets verified = quantity sheets (ascii " sheet") ++ (ascii ", " ++ (a
 
 -- ══ Counted ══
 
-abbrev pub one : Bool → ℕ
-one true = 1
-one false = 0
-
 abbrev pub verifiedIn : List Entry → List Had → ℕ
-verifiedIn es hs = sum_of (λ (h : Had). one (isYes (wordOf es h))) hs
+verifiedIn es hs = sum_of (λ (h : Had). oneIf (isYes (wordOf es h))) hs
 
 abbrev pub othersIn : List Had → List Entry → ℕ
-othersIn hs es = sum_of (λ (e : Entry). one (not (isNamed hs e))) es
+othersIn hs es = sum_of (λ (e : Entry). oneIf (not (isNamed hs e))) es
 
 abbrev pub sheetsIn : List Entry → List Had → ℕ
 sheetsIn es hs = length hs + othersIn hs es

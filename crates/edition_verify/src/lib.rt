@@ -15,7 +15,7 @@ ghost use Rattle.edition_certified.specs.declared.Verdict.TheVariants as verdict
 ghost use Rattle.edition_verify.specs.Files.{had};
 ghost use Rattle.edition_verify.specs.Verifying.{findEntry, wordBy, wordOf, word, isYes, isNamed};
 ghost use Rattle.edition_verify.specs.Verifying.{linesRefused, saidText, wordText, fileText, otherText, lastText, verifiedText};
-ghost use Rattle.edition_verify.specs.Verifying.{CertifiedBy, IsKeptOf, TrueBy, YesIsTrue, one, verifiedIn, othersIn, sheetsIn};
+ghost use Rattle.edition_verify.specs.Verifying.{CertifiedBy, IsKeptOf, TrueBy, YesIsTrue, verifiedIn, othersIn, sheetsIn};
 
 use edition::model::File;
 use edition_certificate_file::{Entry, written_name};
@@ -232,13 +232,6 @@ fn tell_file(
     Ok(answer.is_yes())
 }
 
-// One for a yes.
-fn one_if(yes: bool) -> usize
-    ensures { result ≡ one yes }
-{
-    if yes { 1 } else { 0 }
-}
-
 // Judges files, and puts a line for each. How many are verified?
 fn tell_files(
     alloc: Global,
@@ -253,7 +246,7 @@ fn tell_files(
     let mut verified = 0;
     for file in files {
         let yes = tell_file(alloc, entries, file, out)?;
-        verified += one_if(yes);
+        verified += usize::from(yes);
     }
     Ok(verified)
 }
@@ -312,7 +305,7 @@ fn tell_others(
     let mut others = 0;
     for entry in entries {
         let named = tell_other(alloc, files, entry, out)?;
-        others += one_if(!named);
+        others += usize::from(!named);
     }
     Ok(others)
 }

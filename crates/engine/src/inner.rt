@@ -1,5 +1,5 @@
 //! The rows that are left, and the values that were found, as records.
-ghost use Rattle.std.specs.Prelude.{◌≡◌, IfOk, Ok, List, [], map, ℕ, ◌≤◌, length};
+ghost use Rattle.std.specs.Prelude.{◌≡◌, List, [], map, ℕ, ◌≤◌, length};
 ghost use Rattle.rules.specs.Base.{got, collect};
 ghost use Rattle.rules.specs.Trees.{Atom as TreeAtom, ◌↑◌, is_scalar};
 ghost use Rattle.rules.specs.Writing.{writeFactor, writeProduct, writeCon, writeBinding};
@@ -8,7 +8,7 @@ ghost use Rattle.rules.specs.Elimination.{◌gets◌, factors, boundBy, eliminat
 ghost use Rattle.exponents.specs.Answers.{expOf};
 ghost use Rattle.records.specs.Views.{recOf};
 ghost use Rattle.records.specs.Holds.{atomOf};
-ghost use Rattle.types.specs.Given.{call_over, constraints_in, entered};
+ghost use Rattle.types.specs.Given.{call_over};
 ghost use Rattle.types.specs.Written.{Writes};
 ghost use Rattle.engine_matrix.specs.Told.{row_in};
 ghost use Rattle.engine_matrix.specs.Machine.{colsIn, staying, bound, rest};
@@ -25,7 +25,6 @@ use engine_rows::Lines;
 use engine_rows::inner::{atom_at, blank, lines_of, list_columns};
 use exponents::Exponent;
 use names::tables::NameTable;
-use queries::inner::is_unmixed;
 use records::{Atom, View};
 use rules::Refusal;
 use types::writer::Writer;
@@ -161,22 +160,6 @@ fn write(k: Columns, m: Machine, res: &mut [u32]) -> Eliminated
     Eliminated::Bound(out.at)
 }
 
-/// A set over a table, well formed (8, the table's refusal, 1), and no name both a variable and a parameter (4).
-fn enter<'a>(
-    names: Result<NameTable<'a>, Refusal>,
-    words: &'a [u32],
-) -> Result<GivenSet<'a>, Refusal>
-    ensures answer { toldBy constraints_in result ≡ entered names.entry words.now }
-    ensures same { IfOk result (λ s. names.entry ≡ Ok s.names) }
-{
-    let given = GivenSet::new(names, words)?;
-    if is_unmixed(words, 0, words.len() / 4) {
-        Ok(given)
-    } else {
-        Err(Refusal::Mixed)
-    }
-}
-
 /// All that the engine does past the check of 10.
 pub fn eliminate_set(
     names: Result<NameTable, Refusal>,
@@ -186,7 +169,7 @@ pub fn eliminate_set(
     requires room { 8192 ≤ length res.old }
     ensures { Answered (call_over names.entry eliminatedSet words.now) res.old res.new result }
 {
-    let given = enter(names, words)?;
+    let given = GivenSet::apart(names, words)?;
     let end = words.len() / 4;
     let set = Constraints { words, at: 0, end };
     let reduced = reduce(given.names, set)?;

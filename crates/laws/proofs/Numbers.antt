@@ -1,6 +1,8 @@
 -- The numbers of the refusals tell them apart, and an answer has the number of its outcome.
-use Rattle.std.specs.Prelude.{Result, Ok, Err, Option, None, Some, ◌≡◌, refl, List, [], ◌∷◌, ℕ, ◌-◌, get_or}
-use Rattle.std.proofs.Common.{ap, ◌∙◌, sym}
+use Rattle.std.specs.Prelude.{Result, Ok, Err, Option, None, Some, ◌≡◌, refl, Bool, true, false, List, [], ◌∷◌, ℕ, ◌-◌, ◌≤◌, get_or}
+use Rattle.std.specs.Int.{from_bool}
+use Rattle.std.proofs.Common.{ap, arith, ◌∙◌, sym}
+use Rattle.rules.specs.Base.{oneIf}
 use Rattle.rules.specs.declared.Refusal.{Refusal}
 use Rattle.rules.specs.declared.Refusal.TheVariants.{
   Malformed,
@@ -73,3 +75,15 @@ pub answer-in-by : {A B : Type 0} (f : A → B) (p : Result A Refusal) → numbe
 unfolding refusalIn
 answer-in-by f (Ok a) = refl
 answer-in-by f (Err r) = refl
+
+-- a yes as a number is what it counts: one at most
+pub yes_counts : (b : Bool) {k : ℕ} → k ≡ from_bool b → k ≡ oneIf b
+yes_counts true e = e
+yes_counts false e = e
+
+pub one_at_most : (b : Bool) → oneIf b ≤ 1
+one_at_most true = omega arith
+one_at_most false = omega arith
+
+pub yes_at_most : (b : Bool) {k : ℕ} → k ≡ from_bool b → k ≤ 1
+yes_at_most b e = rw (yes_counts b e) (one_at_most b)

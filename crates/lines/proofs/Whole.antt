@@ -73,7 +73,7 @@ module _ (pool table names : List ℕ) where
     pub cs-good : all (goodCon (numbers pool table) (holding pool table) 0) cs ≡ true
     cs-good = is_all (goodCon (numbers pool table) (holding pool table) 0) cs
         (constraints-formed (ν pool table names) (held pool table names) order ss names []
-        (names_apart (table_of pool table) order names h.differing h.held) (h.formed good))
+        (names_apart (table_of pool table) order names h.differing h.held) h.formed)
 
     pub cs-flat : Within 64 cs
     cs-flat = constraints-flat (ν pool table names) ss names [] h.flat
@@ -123,7 +123,7 @@ module _ (steps types lines names : List ℕ) where
         let e : lineGiven over steps types lines ≡ got ss = c.1 ∙ ap got z in
         let r = theorems.line_read over (numbers-ordered n.pool.now n.table.now n.good) steps types lines ss e in
         record {
-          formed = λ good. (theorems.line_read over (numbers-ordered n.pool.now n.table.now good) steps types lines ss e).formed;
+          formed = r.formed;
           complete = r.complete;
           flat = line-flat over steps types lines ss e;
           differing = and_left (differ names) _ (need-passed (fresh names c.0) 4 d.1);

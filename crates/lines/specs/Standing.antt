@@ -4,7 +4,7 @@ use mathlib.Core.List.{List}
 use Rattle.std.proofs.Math.ListN.{length}
 use Rattle.rules.specs.Trees.{Con}
 use Rattle.laws.specs.Nesting.{Within}
-use Rattle.theorems_ending.proofs.Sets.{Admitted}
+use Rattle.theorems_ending.specs.Counted.{Admitted}
 use Rattle.records.specs.Good.{numbers, holding}
 use Rattle.judge_trials.specs.Trials.{SetThere}
 

@@ -12,8 +12,7 @@ use Rattle.rules.specs.Lines.{lineType, lineShort, checkedLine}
 use Rattle.rules.specs.declared.Refusal.{Refusal}
 use Rattle.laws.specs.Lists.{Every}
 use Rattle.laws.specs.NameTable.{Good}
-use Rattle.theorems_soundness.proofs.Words.{numbers-ordered}
-use Rattle.theorems_lines.proofs.Formed.{FormedStep}
+use Rattle.theorems_lines.specs.FormedSteps.{FormedStep}
 use Rattle.names.specs.declared.tables.NameTable.{NameTable}
 use Rattle.lines.specs.Nested.{Flat}
 
@@ -36,7 +35,7 @@ module _ (pool table names : List ℕ) where
   held = is_held (table_of pool table)
 
   pub record LineHeld (ss : List (LineStep ℕ)) : Type 0 where
-    pub formed : (good : Good pool table) → Every (FormedStep ν held (numbers-ordered pool table good)) ss
+    pub formed : Every (FormedStep ν held) ss
     pub complete : whole 0 ss ≡ true
     pub flat : Every Flat ss
     pub differing : differ names ≡ true

@@ -20,6 +20,9 @@ counted (refused k) n e = clash (sym e)
 pub made-refused : {m : Got (List Rec)} {w : List ℕ} (k : Refusal) → m ≡ refused (number_of k) → Made m w (Err k)
 made-refused k e = record { answer = sym (rw e); front = λ rs i. clash (sym e ∙ i) }
 
+pub made-as : {m k : Got (List Rec)} {w : List ℕ} {r : Result ℕ Refusal} → m ≡ k → Made k w r → Made m w r
+made-as {w = w} {r = r} e h = subst (λ (x : Got (List Rec)). Made x w r) (sym e) h
+
 -- made: these records, written from the start
 pub made-records : (m : Got (List Rec)) (rs : List Rec) (d d' : List ℕ) (n : ℕ) → m ≡ got rs → 16384 ≤ length d → d' ≡ sets d 0 (words rs)
     → n ≡ length rs → n ≤ 2048 → Made m d' (Ok n)

@@ -27,9 +27,6 @@ use Rattle.types.proofs.Tested.{given}
 use Rattle.replace_calls.specs.Entry.{both_over}
 use Rattle.replace_calls.proofs.Checks.{asked, asked-apart}
 
-pub as-made : {m m' : Got (List Rec)} {w : List ℕ} {r : Result ℕ Refusal} → m ≡ m' → Made m' w r → Made m w r
-as-made {m} {m'} {w} {r} e h = subst (λ (x : Got (List Rec)). Made x w r) (sym e) h
-
 -- ══ The open names of what was given ══
 
 module _ (n : NameTable) (ws : List ℕ) (w : Words32 ws) where

@@ -117,6 +117,11 @@ abbrev pub isNil : {A : Type 0} → List A → Bool
 isNil [] = true
 isNil (x ∷ xs) = false
 
+-- one for a yes
+abbrev pub oneIf : Bool → ℕ
+oneIf true = 1
+oneIf false = 0
+
 abbrev pub sum_of : {A : Type 0} → (A → ℕ) → List A → ℕ
 sum_of f [] = 0
 sum_of f (x ∷ xs) = f x + sum_of f xs

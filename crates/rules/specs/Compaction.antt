@@ -23,7 +23,7 @@ use Rattle.std.specs.Prelude.{
   get_or,
   replicate,
 }
-use Rattle.rules.specs.Base.{Got, got, refused, ◌>>◌, need, any, all, collect, sum_of}
+use Rattle.rules.specs.Base.{Got, got, refused, ◌>>◌, need, any, all, collect, oneIf, sum_of}
 use Rattle.rules.specs.Batches.{cutSets}
 use Rattle.rules.specs.Calls.{over, tableKept, setGiven}
 use Rattle.rules.specs.Names.{Bytes, Table, table_of, held, names_of, used, sameBytes, lentTable}
@@ -43,10 +43,6 @@ occurs (w ∷ a ∷ b ∷ c ∷ ws) i = (namesOne (kindIn w) b && eqb a i) || oc
 -- 'keeps exactly the names that occur in them': the held numbers that do
 unfoldable pub keeps : ℕ → List ℕ → ℕ → Bool
 keeps count ws i = ltb i count && occurs ws i
-
-abbrev pub oneIf : Bool → ℕ
-oneIf true = 1
-oneIf false = 0
 
 -- a name's new number: how many of the names before it are kept
 unfoldable pub newNumber : (ℕ → Bool) → ℕ → ℕ

@@ -28,7 +28,7 @@ use Rattle.std.specs.Prelude.{
   Err,
 }
 use Rattle.std.proofs.Math.Option.{Option, none, some}
-use Rattle.rules.specs.Base.{Got, got, refused, bounded, collect, sum_of}
+use Rattle.rules.specs.Base.{Got, got, refused, bounded, collect, oneIf, sum_of}
 use Rattle.rules.specs.Trees.{var, Names, Con, Binding, ◌≔◌}
 use Rattle.rules.specs.Names.{Bytes, Table, table_of, numbersOf}
 use Rattle.rules.specs.Writing.{words, writeCon}
@@ -294,10 +294,6 @@ constraintsIn (lacking u) = 0
 
 unfoldable pub pageText : Table → Page → Bytes
 pageText t p = reportText (namesIn t) p.name p.text (constraintsIn p.content) p.new (findingOf t p.content)
-
-abbrev pub oneIf : Bool → ℕ
-oneIf true = 1
-oneIf false = 0
 
 unfoldable pub acceptedIn : Table → List Page → ℕ
 acceptedIn t ps = sum_of (λ p. oneIf (isAccepted (findingOf t p.content))) ps

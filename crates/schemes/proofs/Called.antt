@@ -33,9 +33,6 @@ pub untested : (s : Got (Unit {0})) (f : Table → Got (List Rec)) {names : Resu
     → got tt ≡ s → Made (called_over names s f) w (Err why)
 untested s f why i e = made-refused why (rw (i, sym e))
 
-pub made-as : {m k : Got (List Rec)} {w : List ℕ} {r : Result ℕ Refusal} → m ≡ k → Made k w r → Made m w r
-made-as {w = w} {r = r} e h = subst (λ (x : Got (List Rec)). Made x w r) (sym e) h
-
 -- what was made is handed over, and the call is that; a work buffer of the same length is left the same
 pub called : {room : Got (Unit {0})} (m : Got (List Rec)) (result work w : List ℕ) → length w ≡ length work → room ≡ got tt
     → handed m result w ≡ writing room m result work

@@ -11,7 +11,6 @@ use Rattle.laws.proofs.Checks.{first-passed, next-passed, list-short}
 use Rattle.records_buffers.proofs.Handed.{made-refused}
 use Rattle.records_buffers.specs.Told.{Made}
 use Rattle.schemes.specs.Entry.{short}
-use Rattle.schemes.proofs.Called.{made-as}
 
 -- all of a call
 pub record IsRow {A B C : Type 0} (f : A → Got (Unit {0})) (g : A → B → Got C) (ws bounds numbers : List ℕ) (k : Got (Unit {0}))

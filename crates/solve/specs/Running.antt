@@ -4,7 +4,7 @@ use Prim.Native.Nat.{ℕ, ◌/◌, ◌≤◌}
 use Rattle.std.proofs.Math.ListN.{length}
 use Rattle.rules.specs.Trees.{Con}
 use Rattle.records.specs.Good.{numbers, holding}
-use Rattle.theorems_ending.proofs.Sets.{Admitted}
+use Rattle.theorems_ending.specs.Counted.{Admitted}
 use Rattle.types.specs.Sets.{IsCons}
 use Rattle.solve_round.specs.States.{SoundSet}
 

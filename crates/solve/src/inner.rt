@@ -1,21 +1,19 @@
 //! The steps of solving, past the check of 10.
-ghost use Rattle.std.specs.Prelude.{◌≡◌, IfOk, List, ℕ, Ok, ◌≤◌, length};
+ghost use Rattle.std.specs.Prelude.{◌≡◌, List, ℕ, ◌≤◌, length};
 ghost use Rattle.rules.specs.Base.{got, bounded};
 ghost use Rattle.rules.specs.Batches.{recordsOf};
 ghost use Rattle.rules.specs.Calls.{solvedSet};
-ghost use Rattle.rules.specs.Refusals.{toldBy};
 ghost use Rattle.rules.specs.Solving.{solve};
 ghost use Rattle.rules.specs.Trees.{Con};
 ghost use Rattle.records.specs.Good.{numbers};
-ghost use Rattle.theorems_ending.proofs.Sets.{start};
+ghost use Rattle.theorems_ending.specs.Counted.{start};
 ghost use Rattle.solve_round.specs.States.{Placed};
 ghost use Rattle.solve.specs.Told.{toldSolution, refusedAs, Answered};
 ghost use Rattle.solve.specs.Running.{Begun};
-ghost use Rattle.types.specs.Given.{call_over, constraints_in, entered};
+ghost use Rattle.types.specs.Given.{call_over};
 
 use super::Solution;
 use names::tables::NameTable;
-use queries::inner::is_unmixed;
 use records::inner::copy;
 use rules::{RECORD_WORDS, Refusal};
 use solve_finish::Finish;
@@ -100,22 +98,6 @@ pub fn run(names: NameTable, set: &[u32], res: &mut [u32], work: &mut [u32]) -> 
     }
 }
 
-/// A set over a table, well formed (8, the table's refusal, 1), and no name both a variable and a parameter (4). One test of the table serves many sets.
-pub fn enter<'a>(
-    names: Result<NameTable<'a>, Refusal>,
-    words: &'a [u32],
-) -> Result<GivenSet<'a>, Refusal>
-    ensures answer { toldBy constraints_in result ≡ entered names.entry words.now }
-    ensures same { IfOk result (λ s. names.entry ≡ Ok s.names) }
-{
-    let set = GivenSet::new(names, words)?;
-    if is_unmixed(words, 0, words.len() / 4) {
-        Ok(set)
-    } else {
-        Err(Refusal::Mixed)
-    }
-}
-
 /// All that solving does past the check of 10, except for clearing the work buffer.
 pub fn solve_set(
     names: Result<NameTable, Refusal>,
@@ -127,7 +109,7 @@ pub fn solve_set(
     requires room { 16384 ≤ length work.old }
     ensures { Answered (call_over names.entry solvedSet words.now) res.old res.new result }
 {
-    match enter(names, words) {
+    match GivenSet::apart(names, words) {
         Ok(set) => run(set.names, words, res, work),
         Err(r) => stopped(r, 0),
     }

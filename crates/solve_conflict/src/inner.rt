@@ -18,7 +18,7 @@ use names::tables::NameTable;
 use records::Open;
 use records::inner::put;
 use rules::{RECORD_WORDS, RECORDS, Refusal};
-use solve::inner::{enter, run};
+use solve::inner::run;
 use solve_finish::Finish;
 use types::writer::Writer;
 use types::{Constraint, Constraints, Demand, GivenSet, Head, Type};
@@ -214,7 +214,7 @@ pub fn find_among<'x>(
     requires room { 16384 ≤ length work.old }
     ensures { FoundAs (call_over names.entry conflictOf words.now) res.old res.new result }
 {
-    let set = enter(names, words)?;
+    let set = GivenSet::apart(names, words)?;
     let lines = Lines { set };
     lines.find(res, work)
 }

@@ -1,4 +1,3 @@
-pub mod Alike
 pub mod Powers
 pub mod Rows
 pub mod Runs

@@ -29,7 +29,7 @@ use Rattle.laws.proofs.SortedNames.{Rises}
 use Rattle.laws.proofs.RuleCases.{single-is}
 use Rattle.laws.proofs.Occurs.{one-bound}
 use Rattle.rules.specs.Elimination.{Row, solvedFor, timesRow, plusRow, putInRow, Fate, gone, stays, binds, atColumn, oneFurther, fate, factors, atomNames}
-use Rattle.theorems_engine.proofs.Alike.{Alike, both, onward, one_more, other-more, same_step, other-is, other-there}
+use Rattle.laws.proofs.Alike.{Alike, both, onward, one_more, other-more, same_step, other-is, other-there}
 use Rattle.theorems_engine.proofs.Powers.{Good, zero_is, nought-times, times-nought, times-one, sum-nought, nought-sum, sum-neg, nought-quotient}
 
 -- a power is 0, or it isn't

@@ -41,7 +41,7 @@ use Rattle.rules.specs.Elimination.{
   unsettled,
   settledBy,
 }
-use Rattle.theorems_engine.proofs.Alike.{Alike, both, neither, onward, other-more, other-is, other-there, Side, end, beside, each-side}
+use Rattle.laws.proofs.Alike.{Alike, both, neither, onward, other-more, other-is, other-there, Side, end, beside, each-side}
 use Rattle.theorems_engine.proofs.Rows.{Fit, At, factors-few, untouched, Rising, product-row, dimension-row, Does, is-gone, is_stuck, is_bound, does}
 
 -- the solver's answer after k rounds, without bounds

@@ -31,7 +31,7 @@ use Rattle.rules.specs.Lines.{constraints, settled, settledSet, agreedSet, lineT
 use Rattle.rules.specs.Running.{ran, runLine}
 use Rattle.theorems_lines.specs.Claims.{closedLine, MeetsLimit}
 use Rattle.theorems_lines.proofs.Read.{once, line_read, names_apart}
-use Rattle.theorems_lines.proofs.Formed.{FormedStep}
+use Rattle.theorems_lines.specs.FormedSteps.{FormedStep}
 use Rattle.theorems_lines.proofs.Stacks.{Ready}
 use Rattle.theorems_lines.proofs.Words.{ready, set-settled}
 use Rattle.theorems_lines.proofs.Beginning.{firsts, seconds, Lent}
@@ -43,7 +43,7 @@ use Rattle.theorems_lines.proofs.OtherNames.{paired, firsts-paired, seconds-pair
 
 module _ {N : Type 0} (ν : Names N) (held : N → Bool) (ord : Ordered ν held) (ps : List (N × N)) (o : Once (firsts ps)) (o' : Once (seconds ps))
     (lent' : All (Lent ν held ord ps) ps)
-    (ss : List (LineStep N)) (formed : Every (FormedStep ν held ord) ss) (rdy : Every Ready ss) where
+    (ss : List (LineStep N)) (formed : Every (FormedStep ν held) ss) (rdy : Every Ready ss) where
   abbrev cs : List (Con N)
   cs = constraints ν (firsts ps) [] ss
 

@@ -15,6 +15,7 @@ use Rattle.rules.specs.Replacing.{Look, asProduct, replaceTy, replaceCon, replac
 use Rattle.rules.specs.Rounds.{Step, bind, split, done, stuck, State, dimensionParts, trySatisfy, round}
 use Rattle.rules.specs.Solving.{accepted, remaining, boundOf, finished, finish, after, run, solve, enough}
 use Rattle.rules.specs.Meaning.{IsDimension}
+use Rattle.laws.proofs.Alike.{Alike, both, neither}
 use Rattle.laws.specs.Order.{Lawful}
 use Rattle.laws.specs.Lists.{All, all_nil, all_cons, in_head}
 use Rattle.laws.proofs.Lists.{one-step, each-went}
@@ -25,7 +26,7 @@ use Rattle.laws.proofs.Turns.{Found, Turn, bound, parted, dropped, turn}
 use Rattle.theorems_soundness.specs.Claims.{Once, keys, type_of}
 use Rattle.theorems_soundness.proofs.Finds.{find-once}
 use Rattle.theorems_lines.proofs.Shut.{Shut, ShutCon, shut-same}
-use Rattle.theorems_lines.proofs.Flow.{Alike, neither, both, Side, shut, pair, Line, closed, dimension, equality, Flow, end, beside, define}
+use Rattle.theorems_lines.proofs.Flow.{Side, shut, pair, Line, closed, dimension, equality, Flow, end, beside, define}
 use Rattle.theorems_lines.proofs.Lockstep.{Binds, unbound, binds, States, Onward, over, on, rounds, no_bound}
 
 module _ {N : Type 0} (ν : Names N) (law : Lawful (orderAtom ν)) (P : N × N → Type 0) where
@@ -126,7 +127,7 @@ module _ {N : Type 0} (ν : Names N) (law : Lawful (orderAtom ν)) (P : N × N �
           → round ν bounded s ≡ m → after ν m k s (λ r. run ν bounded f (suc k) r) ≡ accepted bs ns j
           → ((r r' : State N) → States ν law P r r' → run ν bounded f (suc k) r ≡ accepted bs ns j → Q r) → Q s
       unfolding after
-      turned f k s s' a (neither n) i e more = absurd (cc)
+      turned f k s s' a (neither {n = n}) i e more = absurd (cc)
       turned f k s s' a (both (over h c)) i e more = let z = ended k s c e in last s z.0 z.1
       turned f k s s' a (both (on {a = r} {b = r'} b)) i e more = back s s' r r' a b (turn ν bounded s r i) (more r r' b e)
 

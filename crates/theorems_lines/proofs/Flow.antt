@@ -13,17 +13,6 @@ use Rattle.laws.specs.Lists.{All}
 use Rattle.rules.specs.Lines.{twoFactors}
 use Rattle.theorems_lines.proofs.Shut.{Shut, ShutCon}
 
--- ══ Two answers that go side by side ══
-
-pub data Alike {A B : Type 0} (R : A → B → Type 0) : Got A → Got B → Type 0 where
-  neither : (n : ℕ) → Alike R (refused n) (refused n)
-  both : {a : A} {b : B} → R a b → Alike R (got a) (got b)
-
-pub hence : {A B C D : Type 0} {R : A → B → Type 0} {S : C → D → Type 0} {m : Got A} {n : Got B} {f : A → Got C} {g : B → Got D} → Alike R m n
-    → ((a : A) (b : B) → R a b → Alike S (f a) (g b)) → Alike S (m >>= f) (n >>= g)
-hence (neither n) s = neither n
-hence (both {a} {b} r) s = s a b r
-
 module _ {N : Type 0} (ν : Names N) where
   abbrev pub Pairs : Type 0
   Pairs = List (N × N)

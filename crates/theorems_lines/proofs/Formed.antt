@@ -37,6 +37,7 @@ use Rattle.rules.specs.Steps.{
   chosen,
   takes,
 }
+use Rattle.theorems_lines.specs.FormedSteps.{FormedStep}
 use Rattle.rules.specs.Lines.{its, twoFactors, issuedByTwo, issued, constraints}
 
 one-stored : goodStored one ≡ true
@@ -48,14 +49,6 @@ unfolding rules
 minus-one-stored = refl
 
 module _ {N : Type 0} (ν : Names N) (held : N → Bool) (ord : Ordered ν held) where
-  -- a step that was read: its type is well formed, a constant's is closed, a power is an exponent of the rules
-  abbrev pub FormedStep : LineStep N → Type 0
-  FormedStep (constant t) = (goodTy ν held 0 t ≡ true) × (closed t ≡ true)
-  FormedStep (reference t) = goodTy ν held 0 t ≡ true
-  FormedStep (raises e) = goodExp e ≡ true
-  FormedStep (joins o) = Unit {0}
-  FormedStep chooses = Unit {0}
-
   abbrev Good : Con N → Type 0
   Good c = goodCon ν held 0 c ≡ true
 
@@ -147,7 +140,7 @@ module _ {N : Type 0} (ν : Names N) (held : N → Bool) (ord : Ordered ν held)
   pub popped : (x : N) (st vs : List N) → Apart (x ∷ st) vs → Apart st vs
   popped x st vs a = record { stack = a.stack.1; coming = a.coming; disjoint = a.disjoint.1; stack-held = a.stack-held.1; coming-held = a.coming-held }
 
-  onward : (s : LineStep N) (v : N) (st vs : List N) → Apart st (v ∷ vs) → FormedStep s → Onward v vs (takes s st)
+  onward : (s : LineStep N) (v : N) (st vs : List N) → Apart st (v ∷ vs) → FormedStep ν held s → Onward v vs (takes s st)
   unfolding takes
   onward (constant t) v st vs a f = (type-issued v t a.coming-held.0 f.0, pushed v st vs a)
   onward (reference t) v st vs a f = (type-issued v t a.coming-held.0 f, pushed v st vs a)
@@ -167,7 +160,7 @@ module _ {N : Type 0} (ν : Names N) (held : N → Bool) (ord : Ordered ν held)
     pushed v st vs (popped c st (v ∷ vs) (popped l (c ∷ st) (v ∷ vs) (popped r (l ∷ c ∷ st) (v ∷ vs) a))),
   )
 
-  pub constraints-formed : (ss : List (LineStep N)) (vs st : List N) → Apart st vs → Every FormedStep ss → All Good (constraints ν vs st ss)
+  pub constraints-formed : (ss : List (LineStep N)) (vs st : List N) → Apart st vs → Every (FormedStep ν held) ss → All Good (constraints ν vs st ss)
   unfolding constraints
   constraints-formed [] vs st a f = all_nil Good
   constraints-formed (s ∷ ss) [] st a f = all_nil Good

@@ -18,6 +18,7 @@ use Rattle.rules.specs.Solving.{Answer, solve}
 use Rattle.rules.specs.Judging.{judge}
 use Rattle.rules.specs.Meaning.{Solves}
 use Rattle.rules.specs.WellFormed.{goodCon, goodBinding}
+use Rattle.laws.proofs.Alike.{Alike, both, neither}
 use Rattle.laws.proofs.ByteOrder.{atom-lawful}
 use Rattle.laws.proofs.Contents.{apart-names}
 use Rattle.laws.proofs.Given.{or-some}
@@ -30,9 +31,6 @@ use Rattle.rules.specs.Steps.{LineStep, whole}
 use Rattle.rules.specs.Lines.{its, twoFactors, constraints, last_of, settled, agreed, settledSet, agreedSet, lineType}
 use Rattle.theorems_lines.proofs.Shut.{Never}
 use Rattle.theorems_lines.proofs.Flow.{
-  Alike,
-  neither,
-  both,
   Side,
   shut,
   pair,
@@ -53,7 +51,8 @@ use Rattle.theorems_lines.proofs.Flow.{
 }
 use Rattle.theorems_lines.proofs.Lockstep.{Binds, unbound, binds, Answers, accepts, remains, stops, solves-alike}
 use Rattle.theorems_lines.proofs.Beginning.{firsts, seconds, Lent, Coming, begins}
-use Rattle.theorems_lines.proofs.Formed.{FormedStep, constraints-formed}
+use Rattle.theorems_lines.specs.FormedSteps.{FormedStep}
+use Rattle.theorems_lines.proofs.Formed.{constraints-formed}
 use Rattle.theorems_lines.proofs.Matching.{Matches, Fact, closed-reads}
 use Rattle.theorems_lines.proofs.Stacks.{Ready, runs, last-from}
 use Rattle.theorems_lines.proofs.Carried.{carries}
@@ -183,7 +182,7 @@ module _ {N : Type 0} (ν : Names N) (held : N → Bool) (ord : Ordered ν held)
             find,
           ) (more (rw (i, find) at e))
 
-  module _ (ss : List (LineStep N)) (formed : Every (FormedStep ν held ord) ss) (ready : Every Ready ss) where
+  module _ (ss : List (LineStep N)) (formed : Every (FormedStep ν held) ss) (ready : Every Ready ss) where
     abbrev cs : List (Con N)
     cs = constraints ν (firsts ps) [] ss
 
@@ -206,8 +205,8 @@ module _ {N : Type 0} (ν : Names N) (held : N → Bool) (ord : Ordered ν held)
     answered : {a a' : Answer N} → Answers ν (atom-lawful ν ord.lawful) P a a' → Alike Found (settled a) (settled a')
     unfolding settled
     answered (accepts k b) = both (record { bound = b; no-bounds = refl; no-bounds' = refl })
-    answered (remains cs k) = neither 5
-    answered (stops n k) = neither n
+    answered (remains cs k) = neither
+    answered (stops n k) = neither
 
     pub settled-alike : Alike Found (settledSet ν cs) (settledSet ν cs')
     unfolding settledSet
@@ -218,7 +217,7 @@ module _ {N : Type 0} (ν : Names N) (held : N → Bool) (ord : Ordered ν held)
       where
         go : (b : Bool) → Alike Found (need b 8 >>= λ _. settled (solve ν bounded cs)) (need b 8 >>= λ _. settled (solve ν bounded cs'))
         go true = answered (solves-alike ν (atom-lawful ν ord.lawful) P cs cs' flow)
-        go false = neither 8
+        go false = neither
 
     -- ══ The judge ══
 
@@ -311,7 +310,7 @@ module _ {N : Type 0} (ν : Names N) (held : N → Bool) (ord : Ordered ν held)
 
     both-got : {m m' : Got (List (Binding N) × List N)} → Alike Found m m' → (f : List (Binding N) × List N) → m ≡ got f
         → (f' : List (Binding N) × List N) × (m' ≡ got f') × Found f f'
-    both-got (neither n) f e = absurd (cc)
+    both-got (neither {n = n}) f e = absurd (cc)
     both-got (both {a} {b} r) f e = let z : a ≡ f = cc in (b, refl, subst (λ (g : List (Binding N) × List N). Found g b) z r)
 
     abbrev other : Got (Ty N)
@@ -340,7 +339,7 @@ module _ {N : Type 0} (ν : Names N) (held : N → Bool) (ord : Ordered ν held)
 
     -- a refusal of the solver is the same
     both-refused : {m m' : Got (List (Binding N) × List N)} → Alike Found m m' → (n : ℕ) → m ≡ refused n → m' ≡ refused n
-    both-refused (neither n) k e = cc
+    both-refused (neither {n = n}) k e = cc
     both-refused (both r) k e = absurd (cc)
 
     pub refused-alike : (n : ℕ) → settledSet ν cs ≡ refused n → (lineType ν ss (firsts ps) ≡ refused n) × (other ≡ refused n)

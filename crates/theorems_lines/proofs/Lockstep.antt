@@ -58,6 +58,7 @@ use Rattle.rules.specs.Rounds.{
   round,
 }
 use Rattle.rules.specs.Solving.{Answer, accepted, remaining, stopped, boundOf, finished, finish, after, run, solve, enough}
+use Rattle.laws.proofs.Alike.{Alike, both, neither, onward}
 use Rattle.laws.specs.Order.{Lawful}
 use Rattle.laws.specs.Lists.{All, all_nil, all_cons, in_head}
 use Rattle.laws.proofs.Lists.{all_append, is-no}
@@ -65,10 +66,6 @@ use Rattle.laws.specs.RuleCases.{After}
 use Rattle.laws.proofs.RuleCases.{rule, contained}
 use Rattle.theorems_lines.proofs.Shut.{Never, Shut, ShutCon, shut-rule, shut-same}
 use Rattle.theorems_lines.proofs.Flow.{
-  Alike,
-  neither,
-  both,
-  hence,
   Side,
   shut,
   pair,
@@ -114,7 +111,7 @@ module _ {N : Type 0} (ν : Names N) (law : Lawful (orderAtom ν)) (P : N × N �
   unfolding each replaceBinding
   binds-stay look look' unbound = both unbound
   binds-stay look look' (binds x x' t p h b) = rw (shut-same ν bounded look t h, shut-same ν bounded look' t h)
-      (hence (binds-stay look look' b) (λ as' bs q. both (binds x x' t p h q)))
+      (onward _ _ (binds-stay look look' b) (λ as' bs q. both (binds x x' t p h q)))
 
   binds-more : (x x' : N) (t : Ty N) {bs bs' : List (Binding N)} → P (x, x') → Shut t → Binds bs bs' → Binds (bs ++ x ≔ t ∷ []) (bs' ++ x' ≔ t ∷ [])
   binds-more x x' t p h unbound = binds x x' t p h unbound
@@ -130,8 +127,8 @@ module _ {N : Type 0} (ν : Names N) (law : Lawful (orderAtom ν)) (P : N × N �
   limits n d s s' a = go (leb n 2048) (leb d 64)
     where
       go : (b c : Bool) → Alike States (allow b 8 s >>= λ s. allow c 8 s) (allow b 8 s' >>= λ s. allow c 8 s)
-      go false c = neither 8
-      go true false = neither 8
+      go false c = neither
+      go true false = neither
       go true true = both a
 
   limited-alike : (s s' : State N) → States s s' → Alike States (limited bounded s) (limited bounded s')
@@ -173,7 +170,7 @@ module _ {N : Type 0} (ν : Names N) (law : Lawful (orderAtom ν)) (P : N × N �
 
   later : (c : Con N) → ShutCon c → {cs cs' : List (Con N)} {m m' : Got (Option (Step N × List (Con N)))} → Alike (Next cs cs') m m'
       → Alike (Next (c ∷ cs) (c ∷ cs')) (behind c m) (behind c m')
-  later c h (neither n) = neither n
+  later c h (neither {n = n}) = neither
   later c h (both (nothing e a)) = both (nothing (ap (λ (l : List (Con N)). c ∷ l) e) (all_cons ShutCon h a))
   later c h (both (parts new a f)) = both (parts new a (beside (closed c h) f))
   later c h (both (gone f)) = both (gone (beside (closed c h) f))
@@ -204,7 +201,7 @@ module _ {N : Type 0} (ν : Names N) (law : Lawful (orderAtom ν)) (P : N × N �
     where
       go : (m : Got (Step N)) → trySatisfy ν bounded c ≡ m
           → Alike (Next (c ∷ cs) (c ∷ cs')) (m >>= λ s. taken s c cs (λ _. firstStep ν bounded cs)) (m >>= λ s. taken s c cs' (λ _. firstStep ν bounded cs'))
-      go (refused n) i = neither n
+      go (refused n) i = neither
       go (got s) i = stepped c h f k s (shut-rule ν c s (rule ν bounded c s i) h)
 
   first : {cs cs' : List (Con N)} → F [] cs cs' → Alike (Next cs cs') (firstStep ν bounded cs) (firstStep ν bounded cs')
@@ -242,15 +239,15 @@ module _ {N : Type 0} (ν : Names N) (law : Lawful (orderAtom ν)) (P : N × N �
     on : {a b : State N} → States a b → Onward s s' (some a) (some b)
 
   goes_on : {s s' : State N} {m m' : Got (State N)} → Alike States m m' → Alike (Onward s s') (m >>= λ a. got (some a)) (m' >>= λ a. got (some a))
-  goes_on (neither n) = neither n
+  goes_on (neither {n = n}) = neither
   goes_on (both a) = both (on a)
 
   bound-both : (v v' : N) (t : Ty N) → P (v, v') → Shut t → {bs bs' : List (Binding N)} {cs cs' : List (Con N)} → Binds bs bs'
       → F ((v, v') ∷ []) cs cs' → Alike States (perform ν bounded bs (bind v t) cs) (perform ν bounded bs' (bind v' t) cs')
   unfolding perform
   bound-both v v' t p h b f =
-      hence (flow-put ν law t h v v' (only-pair v v' t h) f) (λ cs cs' g.
-      hence (binds-stay _ _ b) (λ bs bs' c.
+      onward _ _ (flow-put ν law t h v v' (only-pair v v' t h) f) (λ cs cs' g.
+      onward _ _ (binds-stay _ _ b) (λ bs bs' c.
       limited-alike (record { cons = cs; binds = bs ++ v ≔ t ∷ [] }) (record { cons = cs'; binds = bs' ++ v' ≔ t ∷ [] })
       (record { flows = g; bound = binds-more v v' t p h c })))
 
@@ -267,7 +264,7 @@ module _ {N : Type 0} (ν : Names N) (law : Lawful (orderAtom ν)) (P : N × N �
 
   pub rounds : (s s' : State N) → States s s' → Alike (Onward s s') (round ν bounded s) (round ν bounded s')
   unfolding round
-  rounds s s' a = hence (first a.flows) (λ o o' n. performs a.bound n)
+  rounds s s' a = onward _ _ (first a.flows) (λ o o' n. performs a.bound n)
 
   -- ══ All rounds ══
 
@@ -299,7 +296,7 @@ module _ {N : Type 0} (ν : Names N) (law : Lawful (orderAtom ν)) (P : N × N �
       → ((r r' : State N) → States r r' → Answers (run ν bounded f (suc k) r) (run ν bounded f (suc k) r'))
       → Answers (after ν m k s (λ r. run ν bounded f (suc k) r)) (after ν m' k s' (λ r. run ν bounded f (suc k) r))
   unfolding after
-  turned f k s s' a (neither n) more = stops n k
+  turned f k s s' a (neither {n = n}) more = stops n k
   turned f k s s' a (both (over e c)) more = subst
       (λ (cs : List (Con N)). Answers (finish ν k s) (finish ν k (record { cons = cs; binds = s'.binds }))) e
       (ends-alike s.cons c k s.binds s'.binds a.bound)

@@ -49,7 +49,7 @@ use Rattle.rules.specs.Steps.{
 use Rattle.rules.specs.Lines.{its, twoFactors, issuedByTwo, issued, constraints, last_of, agreed, settledSet, agreedSet, lineType}
 use Rattle.theorems_lines.proofs.Stacks.{Ready}
 use Rattle.theorems_lines.proofs.Beginning.{firsts, seconds, Lent}
-use Rattle.theorems_lines.proofs.Formed.{FormedStep}
+use Rattle.theorems_lines.specs.FormedSteps.{FormedStep}
 use Rattle.theorems_lines.proofs.Lent.{flow, good-cs, last-there, answered-alike, refused-alike}
 use Rattle.theorems_lines.proofs.Words.{set-settled}
 use Rattle.theorems_lines.proofs.Asked.{asked-dimensions}
@@ -180,7 +180,7 @@ module _ {N : Type 0} (ν : Names N) where
 
 module _ {N : Type 0} (ν : Names N) (held : N → Bool) (ord : Ordered ν held) (ps : List (N × N)) (once : Once (firsts ps))
     (once' : Once (seconds ps)) (lent : All (Lent ν held ord ps) ps)
-    (ss : List (LineStep N)) (formed : Every (FormedStep ν held ord) ss) (ready : Every Ready ss) where
+    (ss : List (LineStep N)) (formed : Every (FormedStep ν held) ss) (ready : Every Ready ss) where
   abbrev cs : List (Con N)
   cs = constraints ν (firsts ps) [] ss
 

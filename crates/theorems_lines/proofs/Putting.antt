@@ -13,6 +13,7 @@ use Rattle.rules.specs.Trees.{Open, var, Atom, free, base, ◌↑◌, Product, N
 use Rattle.rules.specs.Products.{just, single, inverse, merge, mergeOne, multiply, divide, raise}
 use Rattle.rules.specs.Replacing.{Look, asProduct, replaceTy, replaceDim, replaceProduct, replaceFactors, replaceCon, find, bindings}
 use Rattle.rules.specs.Rules.{rules}
+use Rattle.laws.proofs.Alike.{Alike, both, neither, onward}
 use Rattle.laws.specs.Order.{Lawful}
 use Rattle.laws.proofs.Order.{self, after}
 use Rattle.laws.specs.Fractions.{Lowest}
@@ -27,10 +28,6 @@ use Rattle.laws.proofs.Untouched.{Unbound, ty_same, factors-same}
 use Rattle.rules.specs.Lines.{twoFactors}
 use Rattle.theorems_lines.proofs.Shut.{Never, Shut, shut-same, shut-con}
 use Rattle.theorems_lines.proofs.Flow.{
-  Alike,
-  neither,
-  both,
-  hence,
   Side,
   shut,
   pair,
@@ -243,7 +240,7 @@ module _ {N : Type 0} (ν : Names N) (law : Lawful (orderAtom ν)) where
 
     module _ {K : List (N × N)} where
       as-dim : (m : Got (Product N)) → ((q : Product N) → m ≡ got q → Shut (dim q)) → Alike (Term ν K) (m >>= λ q. got (dim q)) (m >>= λ q. got (dim q))
-      as-dim (refused n) h = neither n
+      as-dim (refused n) h = neither
       as-dim (got q) h = both (side (shut (dim q) (h q refl)))
 
       half-alike : (e : Exp) (p : Product N) → Shut (dim p) → Alike (Term ν K) (halfGot e p) (halfGot e p)
@@ -262,25 +259,25 @@ module _ {N : Type 0} (ν : Names N) (law : Lawful (orderAtom ν)) where
           more : (p : Product N) → Shut (dim p) → (b : Bool)
               → Alike (Term ν K) (allow b 8 (free (var y) ↑ j ∷ p) >>= λ q. got (dim q)) (allow b 8 (free (var y') ↑ j ∷ p) >>= λ q. got (dim q))
           more p h true = both (half y y' j p k low h)
-          more p h false = neither 8
+          more p h false = neither
 
           power : (d : Product N) → Shut (dim d) → (m : Got (Product N)) → raise ν bounded d i ≡ m
               → Alike (Term ν K) (m >>= (λ p. within bounded (suc (length p)) 64 (free (var y) ↑ j ∷ p)) >>= λ q. got (dim q))
               (m >>= (λ p. within bounded (suc (length p)) 64 (free (var y') ↑ j ∷ p)) >>= λ q. got (dim q))
-          power d h (refused n) e = neither n
+          power d h (refused n) e = neither
           power d h (got p) e = more p (power-shut d p i h e) (leb (suc (length p)) 64)
 
           go : (m : Got (Product N)) → asProduct t ≡ m
               → Alike (Term ν K) (m >>= (λ d. raise ν bounded d i >>= λ p. within bounded (suc (length p)) 64 (free (var y) ↑ j ∷ p))
               >>= λ q. got (dim q)) (m >>= (λ d. raise ν bounded d i >>= λ p. within bounded (suc (length p)) 64 (free (var y') ↑ j ∷ p))
               >>= λ q. got (dim q))
-          go (refused n) e = neither n
+          go (refused n) e = neither
           go (got d) e = power d (dimension-shut t d ts e) (raise ν bounded d i) refl
 
     -- ══ Side by side ══
 
     as-terms : {K : List (N × N)} {m n : Got (Ty N)} → Alike (Side ν K) m n → Alike (Term ν K) m n
-    as-terms (neither n) = neither n
+    as-terms (neither {n = n}) = neither
     as-terms (both r) = both (side r)
 
     pub at_bound : (v x : N) → x ≡ v → bindings ν (v ≔ t ∷ []) (var x) ≡ some t
@@ -359,8 +356,8 @@ module _ {N : Type 0} (ν : Names N) (law : Lawful (orderAtom ν)) where
         line-put : {c c' : Con N} → Line ν M c c' → Alike (Line ν K) (replaceCon ν bounded σ c) (replaceCon ν bounded σ' c')
         unfolding replaceCon
         line-put (closed c h) = rw (shut-con ν bounded σ c h, shut-con ν bounded σ' c h) (both (closed c h))
-        line-put (dimension s) = hence (side-put s) (λ a b r. both (dimension r))
-        line-put (equality s u) = hence (side-put s) (λ a b r. hence (side-put u) (λ a' b' r'. both (equality r r')))
+        line-put (dimension s) = onward _ _ (side-put s) (λ a b r. both (dimension r))
+        line-put (equality s u) = onward _ _ (side-put s) (λ a b r. onward _ _ (side-put u) (λ a' b' r'. both (equality r r')))
 
       wide : {K : List (N × N)} {p : N × N} (y y' : N) → Which K y y' → Which (p ∷ K) y y'
       wide y y' (inl i) = inl i
@@ -386,7 +383,7 @@ module _ {N : Type 0} (ν : Names N) (law : Lawful (orderAtom ν)) where
           → Alike (Flow ν P K) (each (replaceCon ν bounded σ) cs) (each (replaceCon ν bounded σ') cs')
       unfolding each replaceCon
       flow-put w end = both end
-      flow-put w (beside c f) = hence (line-put w c) (λ a b r. hence (flow-put w f) (λ as' bs q. both (beside r q)))
+      flow-put w (beside c f) = onward _ _ (line-put w c) (λ a b r. onward _ _ (flow-put w f) (λ as' bs q. both (beside r q)))
       flow-put {P} {M} {K} w (define x x' {t = s} {t' = s'} {cs = cs} {cs' = cs'} p d u f) =
           rw (open_stays σ x (at_other v x (λ i. (d (v, v') w.here).0 (sym i))), open_stays σ' x' (at_other v' x' (λ i. (d (v, v') w.here).1 (sym i))))
           (go (term-put w u) (flow-put (wider x x' w d) f))
@@ -394,6 +391,6 @@ module _ {N : Type 0} (ν : Names N) (law : Lawful (orderAtom ν)) where
           go : {m m' : Got (Ty N)} {n n' : Got (List (Con N))} → Alike (Term ν K) m m' → Alike (Flow ν P ((x, x') ∷ K)) n n'
               → Alike (Flow ν P K) (m >>= (λ a. got (equal (opened (var x)) a)) >>= λ c. n >>= λ cs. got (c ∷ cs))
               (m' >>= (λ a. got (equal (opened (var x')) a)) >>= λ c. n' >>= λ cs. got (c ∷ cs))
-          go (neither n) f = neither n
-          go (both r) (neither n) = neither n
+          go (neither {n = n}) f = neither
+          go (both r) (neither {n = n}) = neither
           go (both r) (both q) = both (define x x' p (λ y m. d y (w.within' y m)) r q)

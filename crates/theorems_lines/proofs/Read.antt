@@ -46,13 +46,14 @@ use Rattle.rules.specs.Steps.{
   stepGiven,
   lineGiven,
 }
-use Rattle.theorems_lines.proofs.Formed.{FormedStep, Apart}
+use Rattle.theorems_lines.specs.FormedSteps.{FormedStep}
+use Rattle.theorems_lines.proofs.Formed.{Apart}
 
 -- ══ Steps ══
 
 module _ (t : Table) (order : Ordered (numbersOf t) (is_held t)) (rs : List Rec) (lines : List ℕ) where
   abbrev Formed : LineStep ℕ → Type 0
-  Formed = FormedStep (numbersOf t) (is_held t) order
+  Formed = FormedStep (numbersOf t) (is_held t)
 
   type-formed : (place : ℕ) (ty : Ty ℕ) → type_at t rs place ≡ got ty → goodTy (numbersOf t) (is_held t) 0 ty ≡ true
   unfolding type_at
@@ -114,7 +115,7 @@ words_of (k ∷ a ∷ b ∷ c ∷ ws) ss e = go (stepWords ws) refl (words_of ws
         rw (← y) (omega arith)
 
 pub record ReadLine (t : Table) (order : Ordered (numbersOf t) (is_held t)) (steps : List ℕ) (ss : List (LineStep ℕ)) : Type 0 where
-  pub formed : Every (FormedStep (numbersOf t) (is_held t) order) ss
+  pub formed : Every (FormedStep (numbersOf t) (is_held t)) ss
   pub complete : whole 0 ss ≡ true
   pub long : length steps ≡ length ss * 4
 

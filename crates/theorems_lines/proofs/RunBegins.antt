@@ -68,7 +68,8 @@ use Rattle.rules.specs.Running.{
 }
 use Rattle.theorems_lines.proofs.Shut.{Never, Shut, scalar-shut}
 use Rattle.theorems_lines.proofs.Stacks.{Ready}
-use Rattle.theorems_lines.proofs.Formed.{FormedStep, Apart, pushed, popped}
+use Rattle.theorems_lines.specs.FormedSteps.{FormedStep}
+use Rattle.theorems_lines.proofs.Formed.{Apart, pushed, popped}
 use Rattle.theorems_lines.proofs.RunFlow.{RSide, shut, pair, RTerm, side, half, two, dimension, equality, Other, RFlow, end, beside, define}
 
 -- ══ What a run that goes on has found ══
@@ -353,7 +354,7 @@ module _ {N : Type 0} (ν : Names N) (held : N → Bool) (ord : Ordered ν held)
       (more (in_head, s, wider K (v, t) st h) (pushed ν held ord v (names st) vs a) (used-on v t vs a.coming.0 d) e)
 
   pub begins : (ss : List (LineStep N)) (vs : List N) (K st : List (N × Ty N)) (left : List (Ty N)) → OnStack K st → Apart ν held ord (names st) vs
-      → Used K vs → Every Ready ss → Every (FormedStep ν held ord) ss
+      → Used K vs → Every Ready ss → Every (FormedStep ν held) ss
       → run_from ν (typesOn st) ss ≡ ran left → F K (constraints ν vs (names st) ss)
   unfolding constraints takes run_from does
   begins [] vs K st left h a d r g e = end

@@ -50,7 +50,8 @@ use Rattle.rules.specs.Lines.{
 use Rattle.rules.specs.Running.{runLine}
 use Rattle.theorems_lines.specs.Claims.{closed_step, closedLine, RunsTo, AcceptedLine}
 use Rattle.theorems_lines.proofs.Read.{line_read, names_apart}
-use Rattle.theorems_lines.proofs.Formed.{FormedStep, Apart, constraints-formed}
+use Rattle.theorems_lines.specs.FormedSteps.{FormedStep}
+use Rattle.theorems_lines.proofs.Formed.{Apart, constraints-formed}
 use Rattle.theorems_lines.proofs.Stacks.{Ready, last-from, runs}
 
 -- ══ Solver and judge ══
@@ -105,7 +106,7 @@ module _ {N : Type 0} (ν : Names N) where
 -- ══ On trees ══
 
 module _ {N : Type 0} (ν : Names N) (held : N → Bool) (order : Ordered ν held) where
-  step-ready : (s : LineStep N) → FormedStep ν held order s → closed_step s ≡ true → Ready s
+  step-ready : (s : LineStep N) → FormedStep ν held s → closed_step s ≡ true → Ready s
   unfolding closed
   step-ready (constant t) f c = is-nil (opens t) c
   step-ready (reference t) f c = is-nil (opens t) c
@@ -113,13 +114,13 @@ module _ {N : Type 0} (ν : Names N) (held : N → Bool) (order : Ordered ν hel
   step-ready (joins o) f c = tt
   step-ready chooses f c = tt
 
-  pub ready : (ss : List (LineStep N)) → Every (FormedStep ν held order) ss → closedLine ss ≡ true → Every Ready ss
+  pub ready : (ss : List (LineStep N)) → Every (FormedStep ν held) ss → closedLine ss ≡ true → Every Ready ss
   unfolding closedLine all
   ready [] f c = tt
   ready (s ∷ ss) f c = (step-ready s f.0 (and_left (closed_step s) _ c), ready ss f.1 (and_right (closed_step s) _ c))
 
   -- a well formed line over held names that differ, solved and judged
-  module _ (ss : List (LineStep N)) (names : List N) (formed : Every (FormedStep ν held order) ss) (complete : whole 0 ss ≡ true)
+  module _ (ss : List (LineStep N)) (names : List N) (formed : Every (FormedStep ν held) ss) (complete : whole 0 ss ≡ true)
       (long : length ss ≤ length names)
       (apart : Apart ν held order [] names) (bs : List (Binding N)) (agreed' : Agreed ν (constraints ν names [] ss) bs) where
     abbrev cs : List (Con N)

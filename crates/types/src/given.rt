@@ -3,10 +3,11 @@ ghost use Rattle.std.specs.Prelude.{◌≡◌, IfOk, Ok, ◌&&◌, [], ◌∷◌
 ghost use Rattle.rules.specs.Base.{need};
 ghost use Rattle.rules.specs.Calls.{shortLists};
 ghost use Rattle.rules.specs.Refusals.{told, toldBy};
-ghost use Rattle.types.specs.Given.{bindings_in, bindings_over, constraints_in, set_over, short_over, type_in, type_over};
+ghost use Rattle.types.specs.Given.{bindings_in, bindings_over, constraints_in, entered, set_over, short_over, type_in, type_over};
 
 use super::{Bindings, Constraints, GivenBindings, GivenSet, GivenType, Type};
 use names::tables::NameTable;
+use queries::inner::is_unmixed;
 use records::inner::set_good;
 use records::reader::{Part, Reader};
 use rules::{RECORD_WORDS, Refusal};
@@ -58,6 +59,22 @@ impl<'a> GivenSet<'a> {
         let end = words.len() / 4;
         let all = Constraints { words, at: 0, end };
         Ok(GivenSet { names, all })
+    }
+
+    /// The set of constraints that a list holds, refused as by `new`, and then with 4 where a name is both a variable and a parameter of it.
+    pub fn apart(
+        names: Result<NameTable<'a>, Refusal>,
+        words: &'a [u32],
+    ) -> Result<GivenSet<'a>, Refusal>
+        ensures answer { toldBy constraints_in result ≡ entered names.entry words.now }
+        ensures same { IfOk result (λ s. names.entry ≡ Ok s.names) }
+    {
+        let set = GivenSet::new(names, words)?;
+        if is_unmixed(words, 0, words.len() / 4) {
+            Ok(set)
+        } else {
+            Err(Refusal::Mixed)
+        }
     }
 }
 

@@ -1,5 +1,6 @@
 use Rattle.std.proofs.Common.{◌≡◌, List, refl, arith}
 use Rattle.rules.specs.Base.{collect}
+use Rattle.laws.proofs.Numbers.{yes_counts}
 use Rattle.edition.specs.Files.{files_of}
 use Rattle.edition.specs.declared.model.File.{File}
 use Rattle.edition_verify.specs.Verifying.{YesIsTrue, fileText, verifiedIn}
@@ -8,7 +9,7 @@ use Rattle.edition_verify.proofs.tell_files.Goals as goal
 
 pub loop-file-preserved : goal.loop-file-preserved
 loop-file-preserved c = (
-  rw c.one_if-verified.ensures (file-told c.args.entries.now c.args.files.now c.args.out.now.items c.loop-file.file-index c.loop-file.verified _ _
+  rw (yes_counts _ c.from-verified.ensures) (file-told c.args.entries.now c.args.files.now c.args.out.now.items c.loop-file.file-index c.loop-file.verified _ _
       c.loop-file-test.true refl c.loop-file.invariant.0 c.in_ok-yes.yes c.in_ok-yes.ensures.is c.in_ok-yes.ensures.told),
   every-more (YesIsTrue c.args.entries.now) c.args.files.now c.loop-file.file-index _ _ c.loop-file-test.true refl c.in_ok-yes.ensures.truth
       c.loop-file.invariant.1,

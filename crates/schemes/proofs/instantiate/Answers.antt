@@ -6,7 +6,7 @@ use Rattle.rules.specs.Calls.{instantiateCall}
 use Rattle.records_buffers.proofs.Handed.{unwritten}
 use Rattle.records_buffers.proofs.OnLent.{Long, long, short}
 use Rattle.schemes.proofs.Instantiated.{instantiate-row}
-use Rattle.schemes.proofs.Called.{over_tested, made-as, called}
+use Rattle.schemes.proofs.Called.{over_tested, called}
 use Rattle.schemes.proofs.instantiate.Goals as goal
 
 pub returns-then-not-lent : goal.returns-then-not-lent

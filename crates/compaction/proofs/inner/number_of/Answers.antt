@@ -4,7 +4,8 @@ use mathlib.Core.Path.{◌≡◌, sym, ap, ap₂, ◌∙◌}
 use Prim.Native.Nat.{◌+◌}
 use Rattle.rules.specs.Compaction.{newNumber}
 use Rattle.compaction.specs.Told.{marks}
-use Rattle.compaction.proofs.Marks.{mark-counts, number-next, number_past, number-none}
+use Rattle.laws.proofs.Numbers.{yes_at_most, yes_counts}
+use Rattle.compaction.proofs.Marks.{number-next, number_past, number-none}
 use Rattle.compaction.proofs.inner.number_of.Goals as goal
 
 pub loop-i-init : goal.loop-i-init
@@ -15,13 +16,13 @@ returns-then-i-ge-NAMES c = let l = c.loop-i in l.invariant.0
     ∙ number_past c.args.m.now l.i c.args.a (omega (arith, c.if-i-ge-NAMES.true, c.requires)) (omega (arith, c.loop-i-test.true))
 
 pub overflow_add-k : goal.overflow_add-k
-overflow_add-k c = omega (arith, c.loop-i.invariant.1, (mark-counts _ c.from-k.ensures).1)
+overflow_add-k c = omega (arith, c.loop-i.invariant.1, yes_at_most _ c.from-k.ensures)
 
 pub loop-i-preserved : goal.loop-i-preserved
-loop-i-preserved c = let l = c.loop-i in let e = mark-counts _ c.from-k.ensures in (
-  ap₂ ◌+◌ l.invariant.0 e.0
+loop-i-preserved c = let l = c.loop-i in (
+  ap₂ ◌+◌ l.invariant.0 (yes_counts _ c.from-k.ensures)
       ∙ sym (number-next _ l.i),
-  omega (arith, l.invariant.1, e.1),
+  omega (arith, l.invariant.1, yes_at_most _ c.from-k.ensures),
 )
 
 pub returns : goal.returns

@@ -14,7 +14,7 @@ use Rattle.types.proofs.Tested.{given, same_table}
 use Rattle.records_buffers.proofs.Handed.{made-refused}
 use Rattle.replace_calls.specs.Made.{madeSet}
 use Rattle.replace_calls.proofs.Checks.{second-too-long, first-stops, second-stops}
-use Rattle.replace_calls.proofs.Whole.{as-made, made-apart, set-opened, set-both}
+use Rattle.replace_calls.proofs.Whole.{made-apart, set-opened, set-both}
 use Rattle.replace_calls.proofs.inner.make_set.Goals as goal
 
 pub returns-in_err-short : goal.returns-in_err-short
@@ -70,5 +70,5 @@ returns c =
     let word : Words32 c.args.words.now = record { word = λ i. (c.type_inv.words i).fits } in
     let binds-word : Words32 c.args.binds.now = record { word = λ i. (c.type_inv.binds i).fits } in
     let n = c.in_ok-bindings.bindings.names in
-    as-made (made-apart setGiven (collect opensCon) madeSet set-opened c.in_ok-bindings.ensures.same word binds-word c.in_ok-given.ensures.answer c.in_ok-bindings.ensures.answer _
+    made-as (made-apart setGiven (collect opensCon) madeSet set-opened c.in_ok-bindings.ensures.same word binds-word c.in_ok-given.ensures.answer c.in_ok-bindings.ensures.answer _
     (c.in_ok-check_apart.ensures (names_of (table_of n.pool.now n.table.now)))) c.set_into.ensures

@@ -13,7 +13,7 @@ use Rattle.types.proofs.Tested.{given, same_table}
 use Rattle.records_buffers.proofs.Handed.{made-refused}
 use Rattle.replace_calls.specs.Made.{madeType}
 use Rattle.replace_calls.proofs.Checks.{second-too-long, first-stops, second-stops}
-use Rattle.replace_calls.proofs.Whole.{as-made, made-apart, type-opened, type-both}
+use Rattle.replace_calls.proofs.Whole.{made-apart, type-opened, type-both}
 use Rattle.replace_calls.proofs.inner.make_type.Goals as goal
 
 pub returns-in_err-short : goal.returns-in_err-short
@@ -68,5 +68,5 @@ returns c =
     let word : Words32 c.args.words.now = record { word = λ i. (c.type_inv.words i).fits } in
     let binds-word : Words32 c.args.binds.now = record { word = λ i. (c.type_inv.binds i).fits } in
     let n = c.in_ok-bindings.bindings.names in
-    as-made (made-apart typeGiven opens madeType type-opened c.in_ok-bindings.ensures.same word binds-word c.in_ok-given.ensures.answer c.in_ok-bindings.ensures.answer _
+    made-as (made-apart typeGiven opens madeType type-opened c.in_ok-bindings.ensures.same word binds-word c.in_ok-given.ensures.answer c.in_ok-bindings.ensures.answer _
     (c.in_ok-check_apart.ensures (names_of (table_of n.pool.now n.table.now)))) c.type_into.ensures

@@ -1,9 +1,9 @@
--- `inner::enter` meets its contract.
+-- `GivenSet::apart` meets its contract.
 use Rattle.std.proofs.Common.{sym, ◌∙◌}
 use Rattle.rules.specs.Names.{table_of, names_of}
 use Rattle.types.proofs.GivenSets.{given-in}
 use Rattle.types.proofs.Entering.{entry-small, let-in}
-use Rattle.solve.proofs.inner.enter.Goals as goal
+use Rattle.types.proofs.GivenSet.apart.Goals as goal
 
 pub is_unmixed-requires : goal.is_unmixed-requires
 is_unmixed-requires c =
