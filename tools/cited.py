@@ -1,5 +1,6 @@
 #!/usr/bin/env python3
-"""Names what stands in a folder specs/ and no contract cites: it belongs in proofs/. And what stands in proofs/ and nothing cites: it goes.
+"""Names what stands in a folder specs/ and no contract cites: it belongs in proofs/. What stands in proofs/ and a contract comes down to: it belongs in specs/,
+with the definitions between them. And what stands in proofs/ and nothing cites: it goes.
 
 A contract is what a clause of src/ names, and every definition that such a definition names in turn. Cases that are computed beside definitions (CasesOf..,
 Examples) stay there, with what they name; the crate `rules` is read for its definitions alone and isn't looked at. A lemma that a page cites stays, and so do
@@ -101,22 +102,56 @@ def cited(modules, place, text):
         yield from resolved(modules, place, word)
 
 
-def promised(modules):
-    """What clauses name."""
-    for path in CRATES.glob("*/src/**/*.rt"):
+def clauses(modules):
+    """What clauses name, each with the file that has the clause."""
+    for path in sorted(CRATES.glob("*/src/**/*.rt")):
         text = path.read_text(encoding="utf-8")
         for _, place, names, whole in USE.findall(text):
-            for name in filter(None, map(str.strip, names.split(","))):
-                yield from resolved(modules, place, name.split(" as ")[0])
-            if not names:
-                for name in set(re.findall(rf"(?<![\w.]){re.escape(whole or place.split('.')[-1])}\.([^\s(){{}}\[\],;]+)", text)):
-                    yield from resolved(modules, place, name)
+            known = list(filter(None, map(str.strip, names.split(","))))
+            if not known:
+                known = set(re.findall(rf"(?<![\w.]){re.escape(whole or place.split('.')[-1])}\.([^\s(){{}}\[\],;]+)", text))
+            for name in known:
+                for here in resolved(modules, place, name.split(" as ")[0]):
+                    yield here, path
+
+
+def beside(modules):
+    """What stays in specs/ beside what clauses name: definitions that a function unfolds, and those that computed cases name."""
+    for path in CRATES.glob("*/src/**/*.rt"):
+        text = path.read_text(encoding="utf-8")
         for crate, file, name in re.findall(r"(\w+)::specs::([\w:]+)::(\w+)", " ".join(re.findall(r"unfolding\(([^()]*)\)", text))):
             home = path.relative_to(CRATES).parts[0] if crate == "crate" else crate
             yield from resolved(modules, f"Rattle.{home}.specs.{file.replace('::', '.')}", name)
     for place, module in modules.items():
         if module.part == "specs" and CASES.match(module.file):
             yield from cited(modules, place, module.text)
+
+
+def reached(modules, starts):
+    """All that these come down to, each with the place that named it first."""
+    by, left = {}, list(starts)
+    while left:
+        here, namer = left.pop()
+        if here not in by:
+            by[here] = namer
+            place, name = here
+            module = modules[place]
+            left += [(there, here) for there in cited(modules, place, "\n".join(module.declared[name]))]
+            left += [((place, other), here) for other in module.together.get(name, [])]
+    return by
+
+
+def out_of_place(modules, by):
+    """What stands in proofs/ and a contract comes down to: the way there is told where it leaves src/ and specs/."""
+    for (place, name), namer in sorted(by.items(), key=lambda it: it[0]):
+        module = modules[place]
+        if module.part == "proofs":
+            way = []
+            while isinstance(namer, tuple):
+                way.append(namer[1])
+                namer = by[namer]
+            through = f" by {', '.join(reversed(way))}" if way else ""
+            yield f"crates/{module.crate}/proofs/{module.file}.antt: {namer.relative_to(CRATES.parent)} cites {name}{through}"
 
 
 def alone(modules):
@@ -137,25 +172,20 @@ def main():
     paths = [p for part in ("specs", "proofs") for p in CRATES.glob(f"*/{part}/**/*.antt") if p.name != "Lib.antt" and "out" not in p.parts]
     made = map(Module, paths)
     modules = {f"Rattle.{m.crate}.{m.part}.{m.file.replace('/', '.')}": m for m in made}
-    reached, left = set(), list(promised(modules))
-    while left:
-        here = left.pop()
-        if here not in reached:
-            reached.add(here)
-            module = modules[here[0]]
-            left += cited(modules, here[0], "\n".join(module.declared[here[1]]))
-            left += [(here[0], name) for name in module.together.get(here[1], [])]
+    by = reached(modules, clauses(modules))
+    needed = by.keys() | reached(modules, ((here, None) for here in beside(modules))).keys()
     idle, lines = [], defaultdict(int)
     for place, module in sorted(modules.items()):
         if module.part == "specs" and module.crate != "rules" and not CASES.match(module.file) and not module.file.startswith("declared"):
             lines[module.crate] += sum(bool(line.strip()) for of in module.declared.values() for line in of[1:])
-            idle += [f"crates/{module.crate}/specs/{module.file}.antt: no contract cites {n}" for n in module.declared if (place, n) not in reached]
-    lone = list(alone(modules))
-    print(*idle, *lone, sep="\n", end="\n" if idle or lone else "")
+            idle += [f"crates/{module.crate}/specs/{module.file}.antt: no contract cites {n}" for n in module.declared if (place, n) not in needed]
+    lone, strayed = list(alone(modules)), list(out_of_place(modules, by))
+    print(*(f"{line}\n" for line in [*strayed, *idle, *lone]), sep="", end="")
     if "--lines" in sys.argv:
         print(*[f"{c} {n}" for c, n in sorted(lines.items(), key=lambda it: -it[1])], sep="\n")
-    print(f"{sum(lines.values())} lines of definitions beside rules, {len(idle)} names that no contract cites, {len(lone)} lemmas that nothing cites")
-    return 1 if idle or lone else 0
+    print(f"{sum(lines.values())} lines of definitions beside rules, {len(idle)} names that no contract cites,"
+          f" {len(strayed)} that contracts cite in proofs/, {len(lone)} lemmas that nothing cites")
+    return 1 if idle or strayed or lone else 0
 
 
 if __name__ == "__main__":
