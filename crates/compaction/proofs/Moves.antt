@@ -1,35 +1,35 @@
 -- Names that move up in the pool, and their ends in the table.
 use Rattle.std.specs.Prelude.{◌≡◌, refl, Bool, true, false, take}
 use Rattle.std.proofs.Math.Path.{sym, ap, ap₂}
-use Rattle.std.proofs.Common.{◌∙◌, arith, add-zero, add-one, drop-set-lt, get_or-set_other, take-add, drop_at, length-take-le}
+use Rattle.std.specs.List.{copy_within}
+use Rattle.std.proofs.Common.{
+  ◌∙◌,
+  arith,
+  add-zero,
+  add-one,
+  drop-set-lt,
+  get_or-set_other,
+  take-add,
+  drop_at,
+  length-take-le,
+  length-drop,
+  take_all,
+}
 use mathlib.Core.List.{List, [], ◌∷◌, ◌++◌, append_assoc, append-nil}
 use Prim.Native.Nat.{ℕ, suc, ◌+◌, ◌-◌, ◌≤◌, ◌<◌}
 use Rattle.std.proofs.Math.ListN.{length, drop, get_or, set, replicate, length-append, length-replicate}
-use Rattle.std.proofs.Math.Seq.{sets, length-sets, slice, slice_empty}
+use Rattle.std.proofs.Math.Seq.{sets, length-sets, slice}
+use Rattle.std.proofs.lemmas.List.Edits.{sets-eq}
+use borrow.Rule.Slice.PartMut.{put_mid}
 use Rattle.rules.specs.Names.{Bytes, table_of, names_of, held, used}
 use Rattle.rules.specs.Base.{collect}
 use Rattle.rules.specs.Calls.{over}
 use Rattle.laws.proofs.Answers.{over-is}
 use Rattle.laws.specs.NameTable.{Good, good-laid, start_at, endsOf, count-is}
 use Rattle.laws.proofs.NameTable.{placed, part_of, part_length, names-step, names-end, start_is, lengths-within, lengths-drop, used-is, used-within, ends-are}
-use Rattle.records.proofs.Stores.{sets-append, sets-before}
+use Rattle.records.proofs.Stores.{sets-append, sets-before, part-cut}
 use Rattle.compaction.specs.Told.{Squeezed}
 use Rattle.rules.specs.Compaction.{consIf, keptFrom, joined, endsFrom, poolOf, endsOver}
-
--- ══ Bytes that are set to 0 ══
-
-pub wipe-step : (d : List ℕ) (i t : ℕ) {R : List ℕ} → i < t → sets d i (replicate (t - i) 0) ≡ R → sets (set d i 0) (i + 1) (replicate (t - (i + 1)) 0) ≡ R
-wipe-step d i t h e =
-    let q : t - i ≡ suc (t - (i + 1)) = omega arith in
-    rw (add-one i) (sym (ap (λ (k : ℕ). sets d i (replicate k 0)) (q ∙ ap (λ (k : ℕ). suc (t - k)) (add-one i))) ∙ e)
-
-pub wipe-end : (d : List ℕ) (i t : ℕ) {R : List ℕ} → t ≤ i → sets d i (replicate (t - i) 0) ≡ R → d ≡ R
-wipe-end d i t h e = let q : t - i ≡ 0 = omega arith in sym (ap (λ (k : ℕ). sets d i (replicate k 0)) q) ∙ e
-
--- ══ Bytes that move up ══
-
-pub shift-end : (d v : List ℕ) {R : List ℕ} (i o t : ℕ) → t ≤ i → i ≤ t → sets d o (slice i t v) ≡ R → d ≡ R
-shift-end d v i o t h k e = let q : i ≡ t = omega arith in sym (ap (λ (b : List ℕ). sets d o b) (ap (λ (k : ℕ). slice k t v) q ∙ slice_empty t v)) ∙ e
 
 -- ══ Stores before a place, and what lies from it on ══
 
@@ -45,6 +45,21 @@ slice-part : (f t : ℕ) (l : List ℕ) → f ≤ t → f ≤ length l → slice
 slice-part f t l h k =
     let e : t ≡ f + (t - f) = omega arith in
     ap (λ (n : ℕ). drop f (take n l)) e ∙ ap (drop f) (take-add f (t - f) l) ∙ drop_at (take f l) (take (t - f) (drop f l)) f (length-take-le f l k)
+
+-- ══ Bytes that move up, and what is set to 0 ══
+
+pub copied : (d : List ℕ) (f t o : ℕ) → f ≤ t → t ≤ length d → o ≤ f → copy_within d f t o ≡ sets d o (slice f t d)
+copied d f t o h k l =
+    let vs = take (t - f) (drop f d) in
+    let n : length vs ≡ t - f = length-take-le (t - f) (drop f d) (omega (arith, length-drop f d)) in
+    sym (ap (sets d o) (slice-part f t d h (omega arith)) ∙ sets-eq vs d o (omega (arith, n)) ∙ ap (λ (k : ℕ). take o d ++ vs ++ drop (o + k) d) n)
+
+pub wiped : (d z : List ℕ) (f k : ℕ) → f + k ≤ length d → z ≡ replicate (length (take k (drop f d))) 0 → put_mid f k d z ≡ sets d f (replicate k 0)
+wiped d z f k h e =
+    let zs = replicate {A = ℕ} k 0 in
+    let n : length zs ≡ k = length-replicate k (let o : ℕ = 0 in o) in
+    let m : length (take k (drop f d)) ≡ k = length-take-le k (drop f d) (omega (arith, length-drop f d)) in
+    part-cut zs d z f k k (e ∙ ap (λ (j : ℕ). replicate j 0) m ∙ sym (take_all k zs (omega (arith, n)))) refl h (omega (arith, n)) (λ l. absurd (omega (arith, n, l)))
 
 -- ══ One name more ══
 

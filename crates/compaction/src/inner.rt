@@ -105,38 +105,6 @@ pub fn renumber(s: &mut [u32], m: &[bool; NAMES])
     }
 }
 
-// Moves the bytes from `from` up to `to` forward to `out`: each is read before it can be written over.
-fn shift(pool: &mut [u8], from: usize, to: usize, out: usize)
-    requires forward { out ≤ from }
-    requires order { from ≤ to }
-    requires within { to ≤ length pool.old }
-    ensures { pool.new ≡ sets pool.old out (slice from to pool.old) }
-{
-    for i in from..to {
-        pool[out + (i - from)] = pool[i];
-    }
-}
-
-// Sets the bytes from `from` up to `to` to 0.
-fn wipe_bytes(pool: &mut [u8], from: usize, to: usize)
-    requires { to ≤ length pool.old }
-    ensures { pool.new ≡ sets pool.old from (replicate (to - from) 0) }
-{
-    for i in from..to {
-        pool[i] = 0;
-    }
-}
-
-// Sets the words from `from` up to `to` to 0.
-fn wipe_words(table: &mut [u32], from: usize, to: usize)
-    requires { to ≤ length table.old }
-    ensures { table.new ≡ sets table.old from (replicate (to - from) 0) }
-{
-    for i in from..to {
-        table[i] = 0;
-    }
-}
-
 // Keeps the marked names, in the old order; how many. Reading is never behind writing, in the pool and in the table.
 pub fn squeeze(pool: &mut [u8], table: &mut [u32], m: &[bool; NAMES]) -> usize
     requires { Good pool.old table.old }
@@ -152,14 +120,14 @@ pub fn squeeze(pool: &mut [u8], table: &mut [u32], m: &[bool; NAMES]) -> usize
             from = end;
             continue;
         }
-        shift(pool, from, end, out);
+        pool.copy_within(from..end, out);
         out += end - from;
         k += 1;
         table[k] = out as u32;
         from = end;
     }
-    wipe_bytes(pool, out, from);
-    wipe_words(table, k + 1, n + 1);
+    pool[out..from].fill(0);
+    table[k + 1..n + 1].fill(0);
     table[0] = k as u32;
     k
 }

@@ -1,10 +1,9 @@
 -- `inner::squeeze` meets its contract.
 use native.Mathlib.Omega.{arith}
 use mathlib.Core.Path.{refl, ◌∙◌}
-use Prim.Native.Nat.{◌<◌}
-use lib.ListN.{length, length-set}
+use Prim.Native.Nat.{◌+◌}
 use Rattle.laws.specs.NameTable.{good-laid}
-use Rattle.compaction.proofs.Moves.{doing-first, doing-skip, doing-keep, doing-last, end_is, pool-long, table-long, rises, within, from-within}
+use Rattle.compaction.proofs.Moves.{doing-first, doing-skip, doing-keep, doing-last, end_is, pool-long, table-long, rises, within, from-within, copied, wiped}
 use Rattle.compaction.proofs.inner.squeeze.Goals as goal
 
 pub bounds-table-0 : goal.bounds-table-0
@@ -30,13 +29,25 @@ loop-i-preserved-then-not-m-i c =
     let E = end_is g d in
     rw E (doing-skip g d more c.if-not-m-i.true)
 
-pub shift-requires : goal.shift-requires
-shift-requires c =
+pub copy_within-requires-clause-start_le_end : goal.copy_within-requires-clause-start_le_end
+copy_within-requires-clause-start_le_end c =
     let g = c.requires in
     let d = c.loop-i.invariant in
     let more = c.loop-i-test.true in
-    let E = end_is g d in
-    record { forward = d.behind; order = omega (arith, E, rises g d more); within = omega (arith, E, within g d more, pool-long g d, g.bytes) }
+    omega (arith, end_is g d, rises g d more)
+
+pub copy_within-requires-clause-in_bounds : goal.copy_within-requires-clause-in_bounds
+copy_within-requires-clause-in_bounds c =
+    let g = c.requires in
+    let d = c.loop-i.invariant in
+    omega (arith, end_is g d, within g d c.loop-i-test.true, pool-long g d, g.bytes)
+
+pub copy_within-requires-clause-dest_in_bounds : goal.copy_within-requires-clause-dest_in_bounds
+copy_within-requires-clause-dest_in_bounds c =
+    let g = c.requires in
+    let d = c.loop-i.invariant in
+    let more = c.loop-i-test.true in
+    omega (arith, end_is g d, d.behind, rises g d more, within g d more, pool-long g d, g.bytes)
 
 pub overflow_sub-out : goal.overflow_sub-out
 overflow_sub-out c =
@@ -87,55 +98,27 @@ loop-i-preserved c =
     let d = c.loop-i.invariant in
     let more = c.loop-i-test.true in
     let E = end_is g d in
-    rw E (doing-keep g d more c.if-not-m-i.false (rw E at c.shift.ensures) refl)
+    let l = c.loop-i in
+    let moved = copied l.pool l.from _ l.out (omega (arith, E, rises g d more)) (omega (arith, E, within g d more, pool-long g d, g.bytes)) d.behind in
+    rw E (doing-keep g d more c.if-not-m-i.false (rw E at (c.copy_within.ensures.after ∙ moved)) refl)
 
-pub wipe_bytes-requires : goal.wipe_bytes-requires
-wipe_bytes-requires c =
+pub slice_bounds-fill-end : goal.slice_bounds-fill-end
+slice_bounds-fill-end c =
     let g = c.requires in
     let d = c.loop-i.invariant in
     omega (arith, from-within g d, pool-long g d, g.bytes)
 
-pub overflow_add-k-2 : goal.overflow_add-k-2
-overflow_add-k-2 c =
-    let g = c.requires in
-    let d = c.loop-i.invariant in
-    omega (arith, d.few, d.inside, (good-laid g).few)
-
-pub overflow_add-n : goal.overflow_add-n
-overflow_add-n c = omega (arith, (good-laid c.requires).few)
-
-pub wipe_words-requires : goal.wipe_words-requires
-wipe_words-requires c =
+pub slice_bounds-fill-end-2 : goal.slice_bounds-fill-end-2
+slice_bounds-fill-end-2 c =
     let g = c.requires in
     let d = c.loop-i.invariant in
     omega (arith, (good-laid g).few, table-long g d, g.words)
-
-pub overflow_cast-table-2 : goal.overflow_cast-table-2
-overflow_cast-table-2 c =
-    let g = c.requires in
-    let d = c.loop-i.invariant in
-    omega (arith, d.few, d.inside, (good-laid g).few)
-
-pub bounds-table-0-2 : goal.bounds-table-0-2
-bounds-table-0-2 c =
-    let g = c.requires in
-    let d = c.loop-i.invariant in
-    let h : 0 < length c.wipe_words.new.table = omega (arith, c.wipe_words.auto.table, table-long g d, g.words) in h
-
-pub shape_of-pool : goal.shape_of-pool
-shape_of-pool c =
-    let g = c.requires in
-    let d = c.loop-i.invariant in
-    c.wipe_bytes.auto.pool ∙ pool-long g d
-
-pub shape_of-table : goal.shape_of-table
-shape_of-table c =
-    let g = c.requires in
-    let d = c.loop-i.invariant in
-    length-set c.wipe_words.new.table 0 c.loop-i.k ∙ c.wipe_words.auto.table ∙ table-long g d
 
 pub returns : goal.returns
 returns c =
     let g = c.requires in
     let d = c.loop-i.invariant in
-    doing-last g d c.loop-i-test.false c.wipe_bytes.ensures c.wipe_words.ensures refl
+    let l = c.loop-i in
+    doing-last g d c.loop-i-test.false
+    (wiped l.pool _ l.out _ (omega (arith, from-within g d, pool-long g d, g.bytes, d.behind)) (c.fill.ensures.after (λ y e. e)))
+    (wiped l.table _ (l.k + 1) _ (omega (arith, (good-laid g).few, table-long g d, g.words)) (c.fill-2.ensures.after (λ y e. e))) refl
