@@ -15,9 +15,10 @@ use Rattle.laws.proofs.Lists.{clash}
 use Rattle.laws.specs.NameTable.{Good, good-distinct}
 use Rattle.laws.proofs.NameTable.{given-good}
 use Rattle.laws.specs.ReadLists.{Words}
-use Rattle.theorems_offices.proofs.Both.{hence, equal-answers, same-both}
+use Rattle.laws.proofs.Alike.{onward}
+use Rattle.theorems_offices.proofs.Both.{equal-answers, same-both}
 use Rattle.theorems_offices.proofs.Batches.{take-alike, drop-alike}
-use Rattle.theorems_offices.proofs.Given.{as_long, lent-table, kept-alike, set_given}
+use Rattle.theorems_offices.proofs.Given.{as_long, lent-table, kept-alike, constraints-given}
 use Rattle.theorems_offices.proofs.Results.{nothing}
 use Rattle.compaction.proofs.Promise.{promised}
 use Rattle.compaction.specs.Theorems.{Promised}
@@ -97,7 +98,7 @@ module _ {pool table pool' table' : List ℕ} (good : Good pool table) (good' : 
   unfolding eachGiven cutSets
   each-given [] ws ws' e = refl
   each-given (n ∷ ns) ws ws' e = equal-answers
-      (hence (set_given good good' (take (n * 4) ws) (take (n * 4) ws') (take-alike T₁ T₂ n ws ws' e)) (λ cs cs' i.
+      (onward _ _ (constraints-given good good' (take (n * 4) ws) (take (n * 4) ws') (take-alike T₁ T₂ n ws ws' e)) (λ cs cs' i.
       same-both (each-given ns (drop (n * 4) ws) (drop (n * 4) ws') (drop-alike T₁ T₂ n ws ws' e))))
 
   checks-alike : (lengths ws ws' : List ℕ) → ReadAlike T₁ T₂ ws ws' → compactChecks pool table ws lengths ≡ compactChecks pool' table' ws' lengths

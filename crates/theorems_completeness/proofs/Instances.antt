@@ -14,7 +14,30 @@ use Rattle.rules.specs.Solving.{accepted, remaining, solve}
 use Rattle.rules.specs.Calls.{setGiven, solved, unsolved, refusedAfter, solveCall}
 use Rattle.rules.specs.Rules.{rules}
 use Rattle.rules.specs.Examples.{x, y, z, L, pool, table, result, work}
-use Rattle.rules.specs.Choices.{Fixed, baseDimension, ◌to◌, Dimension, Choice, Rational, power, scaled, chosenFor, comesTo, dimensional, MakesTrue, MakesAllTrue, Choosing, completed, isSide, wide, sideComesTo, MakesWideTrue, MakesAllWideTrue, ChoosingWide, completedWide}
+use Rattle.rules.specs.Choices.{
+  Fixed,
+  baseDimension,
+  ◌to◌,
+  Dimension,
+  Choice,
+  Rational,
+  power,
+  scaled,
+  chosenFor,
+  comesTo,
+  dimensional,
+  MakesTrue,
+  MakesAllTrue,
+  Choosing,
+  completed,
+  isSide,
+  wide,
+  sideComesTo,
+  MakesWideTrue,
+  MakesAllWideTrue,
+  ChoosingWide,
+  completedWide,
+}
 use Rattle.laws.proofs.Gcd.{is-gcd}
 use Rattle.laws.proofs.Fractions.{coprime-terms}
 use Rattle.laws.specs.Lists.{in_head, Every}

@@ -316,6 +316,8 @@ module _ {N : Type 0} (ν : Names N) (law : Lawful (orderAtom ν)) (held : N →
   abbrev K : State N → Type 0
   K = Fit ν held w
 
+  -- ══ The constraint that is taken, and the others ══
+
   module _ (s : State N) (k : K s) (step : Step N) (rest : List (Con N)) (f : Found ν bounded s.cons step rest) where
     con-wide : Wide ν held w f.con
     con-wide = k.cons-wide f.con f.given
@@ -341,6 +343,8 @@ module _ {N : Type 0} (ν : Names N) (law : Lawful (orderAtom ν)) (held : N →
         go : RightWide g f.con × All (RightWide g) rest → (c : Con N) → (c ≡ f.con) ⊎ Memᴰ c rest → RightWide g c
         go p c (inl e) = subst (RightWide g) (sym e) p.0
         go p c (inr i) = p.1 c i
+
+  -- ══ A round that binds ══
 
   module _ (s s' : State N) (k : K s) (b : Bound ν bounded s s') where
     look : Look N

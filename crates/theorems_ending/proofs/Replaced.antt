@@ -66,6 +66,8 @@ module _ {N : Type 0} (ν : Names N) (law : Lawful (orderAtom ν)) (l : Limits) 
   abbrev look : Open N → Option (Ty N)
   look = bindings ν (x ≔ t ∷ [])
 
+  -- ══ What is looked up, in products ══
+
   data Looked (o : Open N) : Type 0 where
     hit : look o ≡ some t → var x ≡ o → Looked o
     miss : look o ≡ nothing → (var x ≡ o → ⊥) → Looked o
@@ -103,6 +105,8 @@ module _ {N : Type 0} (ν : Names N) (law : Lawful (orderAtom ν)) (l : Limits) 
       go (fn ps r) f = refuses (omega arith)
       go (struct n as' fs) f = refuses (omega arith)
       go (list u) f = refuses (omega arith)
+
+  -- ══ Products, factor by factor ══
 
   sorted-less : (pre post : Product N) (a : Atom N) (e : Exp) → Sorted ν (pre ++ (a ↑ e ∷ post)) → Sorted ν (pre ++ post)
   sorted-less [] post a e h = h.1
@@ -144,6 +148,8 @@ module _ {N : Type 0} (ν : Names N) (law : Lawful (orderAtom ν)) (l : Limits) 
   pub product-replaced : (p : Product N) → Neat ν (Named P) p → Yields (replaceProduct ν l look p) (Neat ν (Named Q))
   unfolding replaceProduct
   product-replaced p n = factors-neat [] p n.sorted tt n.atoms
+
+  -- ══ Types ══
 
   dim-replaced : (p : Product N) (s : Option (Open N)) → single p ≡ s → Neat ν (Named P) p → Yields (replaceDim ν l look s p) (Fine ν Q)
   unfolding replaceDim Fine

@@ -109,6 +109,8 @@ unfolding all goodCon
 products-good ν held [] h = tt
 products-good ν held (p ∷ ps) h = (and_left (goodProduct ν held 0 p) _ h, products-good ν held ps (and_right (goodProduct ν held 0 p) _ h))
 
+-- ══ A set that fits ══
+
 module _ (pool table set : List ℕ) where
   abbrev t : Table
   t = table_of pool table
@@ -203,6 +205,8 @@ unfolding solvedOf answered
 refusal-only j n k (refused i) h e = (cc) ∙ h.only i refl
 refusal-only j n k (got (settled bs)) h e = absurd (cc)
 refusal-only j n k (got (unsettled cs)) h e = absurd (cc)
+
+-- ══ For any input ══
 
 module _ (pool table set result work : List ℕ) where
   abbrev first : Got (Unit {0})

@@ -32,6 +32,8 @@ use Rattle.rules.specs.Elimination.{Row, solvedFor, timesRow, plusRow, putInRow,
 use Rattle.laws.proofs.Alike.{Alike, both, onward, one_more, other-more, same_step, other-is, other-there}
 use Rattle.theorems_engine.proofs.Powers.{Good, zero_is, nought-times, times-nought, times-one, sum-nought, nought-sum, sum-neg, nought-quotient}
 
+-- ══ Powers and columns ══
+
 -- a power is 0, or it isn't
 by-power : (Q : Exp → Type 0) (e : Exp) → Good e → Q nought → (isZero e ≡ false → Q e) → Q e
 by-power Q e h f g = go (isZero e) refl
@@ -256,6 +258,8 @@ module _ {N : Type 0} (ν : Names N) (law : Lawful (orderAtom ν)) where
   unfolding divide multiply inverse
   divided cols r c a few u h k z = rw (cleared cols r c a u h k z) (within-few cols (set r c nought) _ few refl)
 
+  -- ══ A variable, put in as the product of a row ══
+
   -- a variable x, put in as the product of a row
   module _ (x : N) (q : Product N) where
     abbrev look : Look N
@@ -322,6 +326,8 @@ module _ {N : Type 0} (ν : Names N) (law : Lawful (orderAtom ν)) where
         (λ y. rw (factors-kept b cols e r y) (passed-by b e (factors cols r) acc (before_differs law b (free (var x)) o))) in
         let more = walked cols r c acc u.1 h.1 k in
         (λ z. same ∙ more.0 z, λ z. same ∙ more.1 z)
+
+  -- ══ The same on the row ══
 
   -- a variable put into a row, and into the product that the row stands for
   module _ (cols : List (Atom N)) (few : length cols ≤ 64) (rise : Rising ν cols) (c : ℕ) (x : N) (at : At cols c (free (var x))) (w : Row)

@@ -56,7 +56,7 @@ use Rattle.theorems_lines.proofs.Matching.{
   product-true,
   quotient-true,
 }
-use Rattle.theorems_lines.proofs.Stacks.{Ready, Stacked, by_two, by-choice, two-bound}
+use Rattle.theorems_lines.proofs.Stacks.{Ready, Stacked, same-two, by_two, by-choice, two-bound}
 use Rattle.theorems_lines.proofs.Beginning.{firsts, seconds}
 
 boolean-closed : {N : Type 0} → opens {N = N} (basic boolean) ≡ []
@@ -134,15 +134,15 @@ module _ {N : Type 0} (ν : Names N) (held : N → Bool) (ord : Ordered ν held)
     two-carried : (o : Two) → All H (issued ν v.0 (joined o l.0 r.0)) → All Good (issued ν v.1 (joined o l.1 r.1)) → All T' (issued ν v.1 (joined o l.1 r.1))
     unfolding issued issuedByTwo
     two-carried adds f g =
-        let h = all-every H _ f in
-        let b = two-bound ν held ord bs [] good l.0 r.0 s t m n h.0 h.1.0 in
-        dims-carried b.0 b.1 (all_cons T' (sides-carried h.1.1.0.true-under)
-        (all_cons T' (left-carried (of-same ν held ord bs [] good v.0 l.0 s m h.1.1.1.0.true-under)) (all_nil T')))
+        let h = same-two ν held ord bs [] good l.0 r.0 _ f in
+        let b = two-bound ν held ord bs [] good l.0 r.0 s t m n h.left-dim h.right-dim in
+        dims-carried b.0 b.1 (all_cons T' (sides-carried h.same.true-under)
+        (all_cons T' (left-carried (of-same ν held ord bs [] good v.0 l.0 s m h.of-own.true-under)) (all_nil T')))
     two-carried subtracts f g =
-        let h = all-every H _ f in
-        let b = two-bound ν held ord bs [] good l.0 r.0 s t m n h.0 h.1.0 in
-        dims-carried b.0 b.1 (all_cons T' (sides-carried h.1.1.0.true-under)
-        (all_cons T' (left-carried (of-same ν held ord bs [] good v.0 l.0 s m h.1.1.1.0.true-under)) (all_nil T')))
+        let h = same-two ν held ord bs [] good l.0 r.0 _ f in
+        let b = two-bound ν held ord bs [] good l.0 r.0 s t m n h.left-dim h.right-dim in
+        dims-carried b.0 b.1 (all_cons T' (sides-carried h.same.true-under)
+        (all_cons T' (left-carried (of-same ν held ord bs [] good v.0 l.0 s m h.of-own.true-under)) (all_nil T')))
     two-carried multiplies f g =
         let h = all-every H _ f in
         let b = two-bound ν held ord bs [] good l.0 r.0 s t m n h.0 h.1.0 in
@@ -158,10 +158,10 @@ module _ {N : Type 0} (ν : Names N) (held : N → Bool) (ord : Ordered ν held)
         (quotient-true ν held ord bs' [] good' l.1 r.1 s t (moved-bound l hl s b.0) (moved-bound r hr t b.1) v.1
         (g _ (Memᴰ.tail (Memᴰ.tail in_head))) k) (all_nil T'))
     two-carried compares f g =
-        let h = all-every H _ f in
-        let b = two-bound ν held ord bs [] good l.0 r.0 s t m n h.0 h.1.0 in
-        let k = moved v hv (basic boolean) (of-closed ν held ord bs [] good v.0 (basic boolean) boolean-closed h.1.1.1.0.true-under) in
-        dims-carried b.0 b.1 (all_cons T' (sides-carried h.1.1.0.true-under)
+        let h = same-two ν held ord bs [] good l.0 r.0 _ f in
+        let b = two-bound ν held ord bs [] good l.0 r.0 s t m n h.left-dim h.right-dim in
+        let k = moved v hv (basic boolean) (of-closed ν held ord bs [] good v.0 (basic boolean) boolean-closed h.of-own.true-under) in
+        dims-carried b.0 b.1 (all_cons T' (sides-carried h.same.true-under)
         (all_cons T' (closed-true ν held ord bs' [] good' v.1 (basic boolean) k) (all_nil T')))
 
     choice-carried : (c : N × N) → Lent c → All H (issued ν v.0 (chosen c.0 l.0 r.0)) → All T' (issued ν v.1 (chosen c.1 l.1 r.1))

@@ -5,7 +5,7 @@ use Rattle.std.proofs.Math.Path.{refl, ap₂, sym}
 use Rattle.std.proofs.Common.{ap, ◌∙◌}
 use mathlib.Core.List.{List, [], ◌∷◌, Memᴰ}
 use Prim.Native.Nat.{ℕ, suc, ◌+◌, max, Ordering}
-use Rattle.rules.specs.Base.{Got, got, refused, ◌>>=◌, sum_of, max_of}
+use Rattle.rules.specs.Base.{sum_of, max_of}
 use Rattle.rules.specs.Exponents.{Exp}
 use Rattle.rules.specs.Trees.{var, free, ◌↑◌, Product, Names, Ty, opened, dim, Con, equal, isDim, size, depth, sizeCon, depthCon}
 use Rattle.laws.specs.Fractions.{Lowest}

@@ -9,7 +9,6 @@ use Prim.Native.Nat.{Ordering}
 use Rattle.rules.specs.Base.{all}
 use Rattle.rules.specs.Exponents.{Exp, one, neg, isZero, goodExp, goodStored}
 use Rattle.rules.specs.Trees.{var, free, Names, Ty, basic, boolean, Con, equal, isDim, orderOpen, orderAtom}
-use Rattle.rules.specs.Contents.{closed}
 use Rattle.rules.specs.Products.{put}
 use Rattle.rules.specs.WellFormed.{rising, goodOpen, goodFactor, goodProduct, goodTy, goodCon}
 use Rattle.rules.specs.Rules.{rules}

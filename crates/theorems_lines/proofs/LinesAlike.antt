@@ -16,7 +16,8 @@ use Rattle.rules.specs.Offices.{Name, byBytes, nameNo, mapTy, NumbersAlike, Lent
 use Rattle.laws.proofs.Contents.{same-eqb}
 use Rattle.laws.specs.NameTable.{Good}
 use Rattle.theorems_offices.proofs.Over.{collect-over}
-use Rattle.theorems_offices.proofs.Both.{Both, hence, alike, there, through, needed, checked, two-checks}
+use Rattle.laws.proofs.Alike.{both, neither, onward}
+use Rattle.theorems_offices.proofs.Both.{Both, there, through, needed, checked, two-checks}
 use Rattle.theorems_offices.proofs.Contents.{all_map, among-map, closed-map}
 use Rattle.theorems_offices.proofs.Naming.{isNamed, held-named, keeps}
 use Rattle.theorems_offices.proofs.Reading.{seen, records-alike}
@@ -97,31 +98,31 @@ module _ {pool table pool' table' : List ℕ} (good : Good pool table) (good' : 
 
     constant-alike : (i : ℕ) → Steps (constantAt T₁ rs lines i) (constantAt T₂ rs' lines i)
     unfolding constantAt
-    constant-alike i = hence (type-at good good' rs rs' i h) (λ u u' e. hence (needed 1 (closed-alike u u' e)) (λ x y z. alike (ap constant e)))
+    constant-alike i = onward _ _ (type-at good good' rs rs' i h) (λ u u' e. onward _ _ (needed 1 (closed-alike u u' e)) (λ x y z. both (ap constant e)))
 
     at_place : (o : Option ℕ)
         → Steps (orRefuse 1 o >>= λ p. type_at T₁ rs p >>= λ u. got (reference u)) (orRefuse 1 o >>= λ p. type_at T₂ rs' p >>= λ u. got (reference u))
-    at_place none = record { is = refl }
-    at_place (some p) = hence (type-at good good' rs rs' p h) (λ u u' e. alike (ap reference e))
+    at_place none = neither
+    at_place (some p) = onward _ _ (type-at good good' rs rs' p h) (λ u u' e. both (ap reference e))
 
     reference-alike : (i : ℕ) → Steps (referenceTo T₁ rs lines i) (referenceTo T₂ rs' lines i)
     unfolding referenceTo
     reference-alike i = at_place (number_at lines i)
 
     raise-alike : (b : Bool) (e : Exp) → Steps (need b 1 >>= λ _. got (raises e)) (need b 1 >>= λ _. got (raises e))
-    raise-alike true e = alike refl
-    raise-alike false e = record { is = refl }
+    raise-alike true e = both refl
+    raise-alike false e = neither
 
     kind-alike : (k : StepKind) (a b c : ℕ) → Steps (step_of T₁ rs lines k a b c) (step_of T₂ rs' lines k a b c)
     unfolding step_of raiseBy
     kind-alike isConstant a b c = checked {m = zeros (b ∷ c ∷ [])} refl (constant-alike a)
     kind-alike isReference a b c = checked {m = zeros (b ∷ c ∷ [])} refl (reference-alike a)
     kind-alike isRaise a b c = checked {m = zeros (a ∷ [])} refl (raise-alike (goodExp (frac (signed b) c)) (frac (signed b) c))
-    kind-alike isChoose a b c = checked {m = zeros (a ∷ b ∷ c ∷ [])} refl (alike refl)
-    kind-alike (isTwo o) a b c = checked {m = zeros (a ∷ b ∷ c ∷ [])} refl (alike refl)
+    kind-alike isChoose a b c = checked {m = zeros (a ∷ b ∷ c ∷ [])} refl (both refl)
+    kind-alike (isTwo o) a b c = checked {m = zeros (a ∷ b ∷ c ∷ [])} refl (both refl)
 
     by-kind : (o : Option StepKind) (a b c : ℕ) → Steps (orRefuse 1 o >>= λ k. step_of T₁ rs lines k a b c) (orRefuse 1 o >>= λ k. step_of T₂ rs' lines k a b c)
-    by-kind none a b c = record { is = refl }
+    by-kind none a b c = neither
     by-kind (some k) a b c = kind-alike k a b c
 
     step-alike : (w : StepWords) → Steps (stepGiven T₁ rs lines w) (stepGiven T₂ rs' lines w)
@@ -130,9 +131,9 @@ module _ {pool table pool' table' : List ℕ} (good : Good pool table) (good' : 
 
     steps_alike : (ws : List StepWords) → Both (map (map_step ν₁)) (map (map_step ν₂)) (each (stepGiven T₁ rs lines) ws) (each (stepGiven T₂ rs' lines) ws)
     unfolding each
-    steps_alike [] = alike refl
-    steps_alike (w ∷ ws) = hence (step-alike w)
-        (λ s s' e. hence (steps_alike ws) (λ ss ss' i. alike (ap₂ (λ (x : LineStep Name) (xs : List (LineStep Name)). x ∷ xs) e i)))
+    steps_alike [] = both refl
+    steps_alike (w ∷ ws) = onward _ _ (step-alike w)
+        (λ s s' e. onward _ _ (steps_alike ws) (λ ss ss' i. both (ap₂ (λ (x : LineStep Name) (xs : List (LineStep Name)). x ∷ xs) e i)))
 
   whole-alike : (ss ss' : List (LineStep ℕ)) → map (map_step ν₁) ss ≡ map (map_step ν₂) ss' → whole 0 ss ≡ whole 0 ss'
   whole-alike ss ss' e = sym (whole-map ν₁ 0 ss) ∙ ap (whole 0) e ∙ whole-map ν₂ 0 ss'
@@ -145,9 +146,9 @@ module _ {pool table pool' table' : List ℕ} (good : Good pool table) (good' : 
       go : (o : Option (List StepWords)) → Both (map (map_step ν₁)) (map (map_step ν₂))
           (orRefuse 1 o >>= λ ws. orRefuse 1 (records types) >>= λ rs. each (stepGiven T₁ rs lines) ws >>= λ ss. need (whole 0 ss) 1 >>= λ _. got ss)
           (orRefuse 1 o >>= λ ws. orRefuse 1 (records types') >>= λ rs. each (stepGiven T₂ rs lines) ws >>= λ ss. need (whole 0 ss) 1 >>= λ _. got ss)
-      go none = record { is = refl }
-      go (some ws) = hence (there 1 (records types) (records types') (records-alike T₁ T₂ types types' e))
-          (λ rs rs' h. hence (steps_alike rs rs' h lines ws) (λ ss ss' i. hence (needed 1 (whole-alike ss ss' i)) (λ x y z. alike i)))
+      go none = neither
+      go (some ws) = onward _ _ (there 1 (records types) (records types') (records-alike T₁ T₂ types types' e))
+          (λ rs rs' h. onward _ _ (steps_alike rs rs' h lines ws) (λ ss ss' i. onward _ _ (needed 1 (whole-alike ss ss' i)) (λ x y z. both i)))
 
   fresh-alike : (names names' : List ℕ) (ss ss' : List (LineStep ℕ)) → map ν₁ names ≡ map ν₂ names' → map (map_step ν₁) ss ≡ map (map_step ν₂) ss'
       → fresh names ss ≡ fresh names' ss'
@@ -178,10 +179,10 @@ module _ {pool table pool' table' : List ℕ} (good : Good pool table) (good' : 
   checked-alike steps types types' lines names names' e f =
       checked (short-alike steps types types' lines names names' (as_long e) (as_many f))
       (checked (kept-alike good good')
-      (hence (line-given steps types types' lines e) (λ ss ss' i.
-      hence (needed 4 (fresh-alike names names' ss ss' f.names i)) (λ x y z.
-      hence (needed 3 (held-alike names names' f.names)) (λ x' y' z'.
-      hence (type-alike names names' ss ss' f.names i) (λ u u' j. alike (type-written T₁ T₂ u u' j)))))))
+      (onward _ _ (line-given steps types types' lines e) (λ ss ss' i.
+      onward _ _ (needed 4 (fresh-alike names names' ss ss' f.names i)) (λ x y z.
+      onward _ _ (needed 3 (held-alike names names' f.names)) (λ x' y' z'.
+      onward _ _ (type-alike names names' ss ss' f.names i) (λ u u' j. both (type-written T₁ T₂ u u' j)))))))
 
   room-alike : (steps names names' result result' work work' : List ℕ) → length names ≡ length names' → LentAlike result result' work work'
       → lineLent pool table steps names result work ≡ lineLent pool' table' steps names' result' work'

@@ -26,6 +26,8 @@ use Rattle.theorems_lines.proofs.Beginning.{firsts, seconds, Lent}
 use Rattle.theorems_lines.proofs.Words.{ready, set-settled}
 use Rattle.theorems_lines.proofs.NoEleven as Eleven
 
+-- ══ Two lists of lent names ══
+
 -- the names of two lists, side by side
 pub paired : List ℕ → List ℕ → List (ℕ × ℕ)
 paired [] ys = []

@@ -302,6 +302,8 @@ module _ {N : Type 0} (ν : Names N) (law : Lawful (orderAtom ν)) where
     half-stays look x e p h i = ty_same ν bounded look (dim (free (var x) ↑ e ∷ p))
         (i, all-every (λ o. look o ≡ none) (collect openOfFactor p) (λ o m. absurd (h o m)))
 
+    -- ══ Two sets, side by side ══
+
     module _ (v v' : N) where
       abbrev σ : Look N
       σ = bindings ν (v ≔ t ∷ [])

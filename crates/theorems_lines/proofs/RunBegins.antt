@@ -165,6 +165,8 @@ module _ {N : Type 0} (ν : Names N) (held : N → Bool) (ord : Ordered ν held)
   abbrev Term : List (N × Ty N) → Ty N → Ty N → Type 0
   Term = RTerm ν law tells
 
+  -- ══ Types of the run ══
+
   -- a type of the run: closed, and its product, if it is a dimension, is one of exact arithmetic
   pub record Sound (t : Ty N) : Type 0 where
     pub closed : Shut t
@@ -195,6 +197,8 @@ module _ {N : Type 0} (ν : Names N) (held : N → Bool) (ord : Ordered ν held)
   unfolding opens
   inverse-shut q k = each_opens Never (inverse q) (inverse-on Never ν q (opens-each Never q k))
 
+  -- ══ The stack of the run ══
+
   -- a pair on the stack
   abbrev pub OnStack : List (N × Ty N) → List (N × Ty N) → Type 0
   OnStack K [] = Unit {0}
@@ -203,6 +207,8 @@ module _ {N : Type 0} (ν : Names N) (held : N → Bool) (ord : Ordered ν held)
   wider : (K : List (N × Ty N)) (p : N × Ty N) (st : List (N × Ty N)) → OnStack K st → OnStack (p ∷ K) st
   wider K p [] h = tt
   wider K p (q ∷ st) h = (Memᴰ.tail h.0, h.1, wider K p st h.2)
+
+  -- ══ What one step issues, in front of what comes behind ══
 
   module _ {K : List (N × Ty N)} (v : N) (new : All (Other ν law tells v) K) where
     -- the definition of v, in front of what comes behind
@@ -321,6 +327,8 @@ module _ {N : Type 0} (ν : Names N) (held : N → Bool) (ord : Ordered ν held)
             front = λ cs f. beside (equality (pair c w k) (shut (basic boolean) boolean-sound.closed) a.0)
                 (sides-equal a.1 (def s ls (side (pair l s m)) f));
           })
+
+  -- ══ Step after step ══
 
   abbrev names : List (N × Ty N) → List N
   names st = map (λ (p : N × Ty N). p.0) st

@@ -140,6 +140,8 @@ module _ {N : Type 0} (ν : Names N) (law : Lawful (orderAtom ν)) {Held : Atom 
         (λ (z : Product N). Fares (λ q. q ≡ free (var y) ↑ j ∷ z) (within bounded (suc (length more)) 64 (free (var y) ↑ j ∷ more))) k
         (allowed (leb (suc (length more)) 64) (free (var y) ↑ j ∷ more))))
 
+  -- ══ The variable that is bound, taken out ══
+
   module _ (t : Ty N) (ts : Shut t) (v : N) where
     abbrev σ : Look N
     σ = bindings ν (v ≔ t ∷ [])

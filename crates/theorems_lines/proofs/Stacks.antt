@@ -13,7 +13,7 @@ use Rattle.rules.specs.Trees.{Product, Names, Ty, basic, dim, boolean, Con, equa
 use Rattle.rules.specs.Meaning.{means}
 use Rattle.rules.specs.Products.{inverse}
 use Rattle.rules.specs.WellFormed.{goodBinding}
-use Rattle.laws.specs.Lists.{and_left, and_right, All, Every, all-every}
+use Rattle.laws.specs.Lists.{and_left, and_right, All, in_head, Every, all-every}
 use Rattle.laws.proofs.Lists.{true≢false}
 use Rattle.laws.specs.Fractions.{Lowest}
 use Rattle.laws.specs.ExactProducts.{mergeE, raiseE}
@@ -134,6 +134,21 @@ module _ {N : Type 0} (ν : Names N) (held : N → Bool) (ord : Ordered ν held)
       let b = dimension-of ν held ord bs ns good x t m h.0.true-under in
       record { type = dim (raiseE b.product e); leaves = power-runs ν t b.product e b.is; matches = of-power ν held ord bs ns good x e t b low v h.1.0 }
 
+  -- what adding, subtracting and comparing ask: two dimensions that mean the same; and the last constraint, on the step's own variable
+  pub record SameTwo (l r : N) (own : Con N) : Type 0 where
+    pub left-dim : Holding (isDim (its l))
+    pub right-dim : Holding (isDim (its r))
+    pub same : Holding (equal (its l) (its r))
+    pub of-own : Holding own
+
+  pub same-two : (l r : N) (own : Con N) → All Holding (isDim (its l) ∷ isDim (its r) ∷ equal (its l) (its r) ∷ own ∷ []) → SameTwo l r own
+  same-two l r own facts = record {
+    left-dim = facts _ in_head;
+    right-dim = facts _ (Memᴰ.tail in_head);
+    same = facts _ (Memᴰ.tail (Memᴰ.tail in_head));
+    of-own = facts _ (Memᴰ.tail (Memᴰ.tail (Memᴰ.tail in_head)));
+  }
+
   -- both operands are dimensions
   module _ (l r : N) (s t : Ty N) (m : Match l s) (n : Match r t) where
     abbrev pub Bounds : Type 0
@@ -149,11 +164,19 @@ module _ {N : Type 0} (ν : Names N) (held : N → Bool) (ord : Ordered ν held)
     pub by_two : (o : Two) (v : N) → All Holding (issued ν v (joined o l r)) → Left v (joined o s t)
     unfolding issued issuedByTwo does doesTwo opens
     by_two adds v facts =
-        let h = all-every Holding _ facts in
-        record { type = s; leaves = same-sides (two-bound h.0 h.1.0) h.1.1.0 s; matches = of-same ν held ord bs ns good v l s m h.1.1.1.0.true-under }
+        let h = same-two l r _ facts in
+        record {
+          type = s;
+          leaves = same-sides (two-bound h.left-dim h.right-dim) h.same s;
+          matches = of-same ν held ord bs ns good v l s m h.of-own.true-under;
+        }
     by_two subtracts v facts =
-        let h = all-every Holding _ facts in
-        record { type = s; leaves = same-sides (two-bound h.0 h.1.0) h.1.1.0 s; matches = of-same ν held ord bs ns good v l s m h.1.1.1.0.true-under }
+        let h = same-two l r _ facts in
+        record {
+          type = s;
+          leaves = same-sides (two-bound h.left-dim h.right-dim) h.same s;
+          matches = of-same ν held ord bs ns good v l s m h.of-own.true-under;
+        }
     by_two multiplies v facts =
         let h = all-every Holding _ facts in
         let b = two-bound h.0 h.1.0 in
@@ -171,11 +194,11 @@ module _ {N : Type 0} (ν : Names N) (held : N → Bool) (ord : Ordered ν held)
           matches = of-quotient ν held ord bs ns good l r s t b.0 b.1 v h.1.1.0;
         }
     by_two compares v facts =
-        let h = all-every Holding _ facts in
+        let h = same-two l r _ facts in
         record {
           type = basic boolean;
-          leaves = same-sides (two-bound h.0 h.1.0) h.1.1.0 (basic boolean);
-          matches = of-closed ν held ord bs ns good v (basic boolean) refl h.1.1.1.0.true-under;
+          leaves = same-sides (two-bound h.left-dim h.right-dim) h.same (basic boolean);
+          matches = of-closed ν held ord bs ns good v (basic boolean) refl h.of-own.true-under;
         }
 
     pub by-choice : (c : N) (u : Ty N) → Match c u → (v : N) → All Holding (issued ν v (chosen c l r)) → Left v (chosen u s t)

@@ -13,12 +13,13 @@ use Rattle.rules.specs.Offices.{nameNo, Name, byBytes, mapCon, AddedAlike, front
 use Rattle.laws.proofs.Checks.{need-passed, first-passed, next-passed}
 use Rattle.laws.proofs.Lists.{bound-step}
 use Rattle.laws.specs.NameTable.{Good}
-use Rattle.theorems_offices.proofs.Both.{hence, alike, through, checked, two-checks, equal-answers}
+use Rattle.laws.proofs.Alike.{both, onward}
+use Rattle.theorems_offices.proofs.Both.{through, checked, two-checks, equal-answers}
 use Rattle.theorems_offices.proofs.Sizes.{size-cons}
 use Rattle.theorems_offices.proofs.Adding.{add-map}
 use Rattle.theorems_offices.proofs.Naming.{keeps}
 use Rattle.theorems_offices.proofs.Results.{take-front, joined-alike}
-use Rattle.theorems_offices.proofs.Given.{Alike, as_long, short, only-alike, kept-alike, lent-table, lent-result, set_given}
+use Rattle.theorems_offices.proofs.Given.{Alike, as_long, short, only-alike, kept-alike, lent-table, lent-result, constraints-given}
 
 take-both : (xs ys rest : List ℕ) (n : ℕ) → length xs ≡ n → take (n + length ys) (xs ++ (ys ++ rest)) ≡ xs ++ ys
 take-both xs ys rest n e =
@@ -57,11 +58,11 @@ module _ {pool table pool' table' : List ℕ} (good : Good pool table) (good' : 
       (checked (two-checks (lent-table good good') (lent-result buffer buffer' r))
       (checked (two-checks {a = need (leb n 2048) 8} refl (short (c ∷ []) (c' ∷ []) (rw (as_long f))))
       (checked (kept-alike good good')
-      (hence (set_given good good' (take (n * 4) buffer) (take (n * 4) buffer') e) (λ cs cs' i.
-      hence (hence (set_given good good' c c' f) (only-alike (mapCon ν₁) (mapCon ν₂))) (λ d d' j.
-      hence (through (add-map _ byBytes ν₁ (keeps good) cs d) (add-map _ byBytes ν₂ (keeps good') cs' d')
+      (onward _ _ (constraints-given good good' (take (n * 4) buffer) (take (n * 4) buffer') e) (λ cs cs' i.
+      onward _ _ (onward _ _ (constraints-given good good' c c' f) (only-alike (mapCon ν₁) (mapCon ν₂))) (λ d d' j.
+      onward _ _ (through (add-map _ byBytes ν₁ (keeps good) cs d) (add-map _ byBytes ν₂ (keeps good') cs' d')
       (ap₂ (λ (x : List (Con Name)) (y : Con Name). add byBytes x y) i j)) (λ q q' k.
-      alike (ap₂ (λ (a : Added) (m : ℕ). (a, m)) (ap (λ v. v.0) k) (sym (size-cons ν₁ q.1) ∙ ap (λ v. sum_of sizeCon v.1) k ∙ size-cons ν₂ q'.1)))))))))
+      both (ap₂ (λ (a : Added) (m : ℕ). (a, m)) (ap (λ v. v.0) k) (sym (size-cons ν₁ q.1) ∙ ap (λ v. sum_of sizeCon v.1) k ∙ size-cons ν₂ q'.1)))))))))
 
   stored-front : (buffer c : List ℕ) (n : ℕ) → n * 4 ≤ length buffer
       → take (n * 4 + length c) (take (n * 4) buffer ++ over c (drop (n * 4) buffer)) ≡ take (n * 4) buffer ++ c

@@ -17,12 +17,13 @@ use Rattle.rules.specs.Offices.{byBytes, nameNo, mapCon, readBack, ReadAlike, Le
 use Rattle.laws.specs.NameTable.{Good}
 use Rattle.laws.specs.Answers.{words_of, manyOf}
 use Rattle.laws.proofs.Answers.{answer-long, four-long}
-use Rattle.theorems_offices.proofs.Both.{pair, hence, alike, checked, equal-answers}
+use Rattle.laws.proofs.Alike.{both, onward}
+use Rattle.theorems_offices.proofs.Both.{checked, equal-answers}
 use Rattle.theorems_offices.proofs.Contents.{variables-in, sort-map}
 use Rattle.theorems_offices.proofs.Naming.{keeps}
 use Rattle.theorems_offices.proofs.Queries.{alone}
 use Rattle.theorems_offices.proofs.Results.{nothing, front-over, joined-alike}
-use Rattle.theorems_offices.proofs.Given.{Alike, as_long, lent-table, lent-work, set_given, set-opens}
+use Rattle.theorems_offices.proofs.Given.{Alike, as_long, lent-table, lent-work, constraints-given, set-opens}
 use Rattle.theorems_offices.proofs.Solves.{solved-set, Same, same}
 
 abbrev fourOf : Got (Answer ℕ) → List ℕ
@@ -86,7 +87,7 @@ module _ {pool table pool' table' : List ℕ} (good : Good pool table) (good' : 
     words : ReadAlike T₁ T₂ (collect words_of as') (collect words_of bs)
 
   one : (ws ws' : List ℕ) → Alike good good' ws ws' → Same good good' (solvedSet T₁ ws) (solvedSet T₂ ws')
-  one ws ws' e = same good good' (pair _ _ (solved-set good good' ws ws' e))
+  one ws ws' e = same good good' (solved-set good good' ws ws' e)
 
   one-words : (m m' : Got (Answer ℕ)) → Same good good' m m' → ReadAlike T₁ T₂ (words_of m) (words_of m')
   one-words m m' s = let r = s.records [] [] in rw (fronted m, fronted m') at r
@@ -176,4 +177,4 @@ module _ {pool table pool' table' : List ℕ} (good : Good pool table) (good' : 
   pub ceiling-alike : (ws ws' : List ℕ) → Alike good good' ws ws' → ceilingCall pool table ws ≡ ceilingCall pool' table' ws'
   unfolding ceilingCall
   ceiling-alike ws ws' e = equal-answers
-      (checked (alone good good' ws ws' e) (hence (set_given good good' ws ws' e) (λ cs cs' i. alike (ap ceilingFor (counted cs cs' i)))))
+      (checked (alone good good' ws ws' e) (onward _ _ (constraints-given good good' ws ws' e) (λ cs cs' i. both (ap ceilingFor (counted cs cs' i)))))

@@ -38,6 +38,8 @@ use Rattle.rules.specs.Offices.{
 use Rattle.theorems_offices.specs.Deeds as deeds
 use Rattle.theorems_offices.specs.Deeds.{Deed, reads, Done, afterDeeds, Reply, outcome, repliesTo}
 
+-- ══ Names and their numbers ══
+
 abbrev enters : Office → Bytes → Entering
 enters o n = record { by = o; name = n }
 
@@ -90,6 +92,8 @@ bounds-by-bytes : bounds alone twoBounds ∷ bounds second (map (fill (1 ∷ 0 �
 unfolding rules counting result work entered afterAll readBack namesOne nameNo fill
 bounds-by-bytes = refl
 
+-- ══ Where there is no room ══
+
 -- 255 names of one byte each, and room for one more
 up_to : ℕ → ℕ → List ℕ
 up_to a zero = []
@@ -117,6 +121,8 @@ later = afterAll shared (enters there (113 ∷ []) ∷ [])
 stray-number : setCall pool table strays ∷ setCall later.pool later.table strays ∷ [] ≡ refused 1 ∷ got tt ∷ []
 unfolding rules counting pool table entered afterAll
 stray-number = refl
+
+-- ══ Other calls ══
 
 -- the check of 4 is within one set: x is a variable of one office's set and a parameter of the other's, and both are accepted; together they are 4
 abbrev variableSet : List Rec

@@ -24,7 +24,8 @@ use Rattle.rules.specs.Calls.{
 use Rattle.rules.specs.Offices.{nameNo, Name, byBytes, mapTy, mapCon, mapBinding, NumbersAlike, LentAlike, WrittenAlike}
 use Rattle.laws.specs.NameTable.{Good}
 use Rattle.theorems_offices.proofs.Over.{Over, each_over, sized-over}
-use Rattle.theorems_offices.proofs.Both.{Both, hence, alike, through, checked, two-checks}
+use Rattle.laws.proofs.Alike.{both, onward}
+use Rattle.theorems_offices.proofs.Both.{Both, through, checked, two-checks}
 use Rattle.theorems_offices.proofs.Sizes.{size-map, depth-map, mapState}
 use Rattle.theorems_offices.proofs.Replacing.{ty-map, con-map, looks-map}
 use Rattle.theorems_offices.proofs.Rounds.{limited-map}
@@ -32,7 +33,7 @@ use Rattle.theorems_offices.proofs.Schemes.{quantify-map, generalise-map, instan
 use Rattle.theorems_offices.proofs.Naming.{keeps}
 use Rattle.theorems_offices.proofs.Writing.{type-written, set-written, scheme-written, opened-written}
 use Rattle.theorems_offices.proofs.Results.{writing-alike}
-use Rattle.theorems_offices.proofs.Given.{Alike, as_long, as_many, short, few, kept-alike, lent_alike, set_given, type-given, scheme-given}
+use Rattle.theorems_offices.proofs.Given.{Alike, as_long, as_many, short, few, kept-alike, lent_alike, constraints-given, type-given, scheme-given}
 use Rattle.theorems_offices.proofs.Given.{
   bindings-given,
   bounds-given,
@@ -59,6 +60,8 @@ module _ {pool table pool' table' : List ℕ} (good : Good pool table) (good' : 
 
   abbrev ν₂ : ℕ → Name
   ν₂ = nameNo T₂
+
+  -- ══ Replacing ══
 
   -- a type or a set in which bindings are put in
   type-replaced : (u u' : Ty ℕ) (bs bs' : List (Binding ℕ)) → mapTy ν₁ u ≡ mapTy ν₂ u' → map (mapBinding ν₁) bs ≡ map (mapBinding ν₂) bs'
@@ -100,13 +103,13 @@ module _ {pool table pool' table' : List ℕ} (good : Good pool table) (good' : 
       (writing-alike T₁ T₂ (lent pool' table' result' work') _ _ result result' work work'
       (checked (short (ws ∷ bs ∷ []) (ws' ∷ bs' ∷ []) (rw (as_long e, as_long f)))
       (checked (kept-alike good good')
-      (hence (type-given good good' ws ws' e) (λ u u' i.
-      hence (bindings-given good good' bs bs' f) (λ xs xs' j.
+      (onward _ _ (type-given good good' ws ws' e) (λ u u' i.
+      onward _ _ (bindings-given good good' bs bs' f) (λ xs xs' j.
       checked (apart-alike good good' _ _
       (joined good good' (opens u) (opens u') (collect opensBinding xs) (collect opensBinding xs') (opens-alike good good' u u' i)
       (binding-opens good good' xs xs' j)))
-      (hence (type-replaced u u' xs xs' i j) (λ v v' k.
-      hence (sized-type v v' k) (λ w w' l. alike (type-written T₁ T₂ w w' l))))))))))
+      (onward _ _ (type-replaced u u' xs xs' i j) (λ v v' k.
+      onward _ _ (sized-type v v' k) (λ w w' l. both (type-written T₁ T₂ w w' l))))))))))
 
   pub replace-set : (ws ws' bs bs' result result' work work' : List ℕ) → Alike good good' ws ws' → Alike good good' bs bs' → LentAlike result result' work work'
       → WrittenAlike T₁ T₂ (replaceSetCall pool table ws bs result work) (replaceSetCall pool' table' ws' bs' result' work')
@@ -115,13 +118,15 @@ module _ {pool table pool' table' : List ℕ} (good : Good pool table) (good' : 
       (writing-alike T₁ T₂ (lent pool' table' result' work') _ _ result result' work work'
       (checked (short (ws ∷ bs ∷ []) (ws' ∷ bs' ∷ []) (rw (as_long e, as_long f)))
       (checked (kept-alike good good')
-      (hence (set_given good good' ws ws' e) (λ cs cs' i.
-      hence (bindings-given good good' bs bs' f) (λ xs xs' j.
+      (onward _ _ (constraints-given good good' ws ws' e) (λ cs cs' i.
+      onward _ _ (bindings-given good good' bs bs' f) (λ xs xs' j.
       checked (apart-alike good good' _ _
       (joined good good' (collect opensCon cs) (collect opensCon cs') (collect opensBinding xs) (collect opensBinding xs')
       (set-opens good good' cs cs' i) (binding-opens good good' xs xs' j)))
-      (hence (set-replaced cs cs' xs xs' i j) (λ ds ds' k.
-      hence (limited-set ds ds' k) (λ s s' l. alike (set-written T₁ T₂ s.cons s'.cons (ap (λ z. z.cons) l)))))))))))
+      (onward _ _ (set-replaced cs cs' xs xs' i j) (λ ds ds' k.
+      onward _ _ (limited-set ds ds' k) (λ s s' l. both (set-written T₁ T₂ s.cons s'.cons (ap (λ z. z.cons) l)))))))))))
+
+  -- ══ Quantifying, generalising, instantiating ══
 
   pub quantify-alike : (ws ws' bs bs' ns ns' result result' work work' : List ℕ) → Alike good good' ws ws' → Alike good good' bs bs'
       → NumbersAlike T₁ T₂ ns ns' → LentAlike result result' work work'
@@ -131,13 +136,13 @@ module _ {pool table pool' table' : List ℕ} (good : Good pool table) (good' : 
       (writing-alike T₁ T₂ (lent pool' table' result' work') _ _ result result' work work'
       (checked (two-checks (short (ws ∷ bs ∷ []) (ws' ∷ bs' ∷ []) (rw (as_long e, as_long f))) (few ns ns' (as_many n)))
       (checked (kept-alike good good')
-      (hence (type-given good good' ws ws' e) (λ u u' i.
-      hence (bounds-given good good' bs bs' f) (λ os os' j.
+      (onward _ _ (type-given good good' ws ws' e) (λ u u' i.
+      onward _ _ (bounds-given good good' bs bs' f) (λ os os' j.
       checked (numbers-given good good' ns ns' n.names)
       (checked (apart-alike good good' _ _ (opens-alike good good' u u' i))
-      (hence (through (quantify-map _ byBytes ν₁ (keeps good) bounded ns u os) (quantify-map _ byBytes ν₂ (keeps good') bounded ns' u' os')
+      (onward _ _ (through (quantify-map _ byBytes ν₁ (keeps good) bounded ns u os) (quantify-map _ byBytes ν₂ (keeps good') bounded ns' u' os')
       (quantified-alike n.names i j)) (λ s s' k.
-      alike (scheme-written T₁ T₂ s s' k))))))))))
+      both (scheme-written T₁ T₂ s s' k))))))))))
     where
       quantified-alike : {xs ys : List Name} {u v : Ty Name} {os ps : List (Open Name)} → xs ≡ ys → u ≡ v → os ≡ ps
           → quantify byBytes bounded xs u os ≡ quantify byBytes bounded ys v ps
@@ -151,13 +156,13 @@ module _ {pool table pool' table' : List ℕ} (good : Good pool table) (good' : 
       (writing-alike T₁ T₂ (lent pool' table' result' work') _ _ result result' work work'
       (checked (short (ws ∷ bs ∷ []) (ws' ∷ bs' ∷ []) (rw (as_long e, as_long f)))
       (checked (kept-alike good good')
-      (hence (scheme-given good good' ws ws' e) (λ s s' i.
-      hence (names-given good good' bs bs' f) (λ os os' j.
+      (onward _ _ (scheme-given good good' ws ws' e) (λ s s' i.
+      onward _ _ (names-given good good' bs bs' f) (λ os os' j.
       checked (apart-alike good good' _ _ (scheme-opens good good' s s' i))
-      (hence (through (generalise-map _ byBytes ν₁ (keeps good) bounded (map word_of os) s)
+      (onward _ _ (through (generalise-map _ byBytes ν₁ (keeps good) bounded (map word_of os) s)
       (generalise-map _ byBytes ν₂ (keeps good') bounded (map word_of os') s')
       (ap₂ (λ (xs : List Name) (z : Scheme Name). generalise byBytes bounded xs z) j i)) (λ z z' k.
-      alike (scheme-written T₁ T₂ z z' k)))))))))
+      both (scheme-written T₁ T₂ z z' k)))))))))
 
   pub instantiate-alike : (ws ws' ns ns' result result' work work' : List ℕ) → Alike good good' ws ws' → NumbersAlike T₁ T₂ ns ns'
       → LentAlike result result' work work'
@@ -167,9 +172,9 @@ module _ {pool table pool' table' : List ℕ} (good : Good pool table) (good' : 
       (writing-alike T₁ T₂ (lent pool' table' result' work') _ _ result result' work work'
       (checked (two-checks (short (ws ∷ []) (ws' ∷ []) (rw (as_long e))) (few ns ns' (as_many n)))
       (checked (kept-alike good good')
-      (hence (scheme-given good good' ws ws' e) (λ s s' i.
+      (onward _ _ (scheme-given good good' ws ws' e) (λ s s' i.
       checked (numbers-given good good' ns ns' n.names)
       (checked (apart-alike good good' _ _ (scheme-opens good good' s s' i))
-      (hence (through (instantiate-map _ byBytes ν₁ (keeps good) bounded ns s) (instantiate-map _ byBytes ν₂ (keeps good') bounded ns' s')
+      (onward _ _ (through (instantiate-map _ byBytes ν₁ (keeps good) bounded ns s) (instantiate-map _ byBytes ν₂ (keeps good') bounded ns' s')
       (ap₂ (λ (xs : List Name) (z : Scheme Name). instantiate byBytes bounded xs z) n.names i)) (λ z z' k.
-      alike (opened-written T₁ T₂ z.0 z'.0 z.1 z'.1 (ap (λ v. v.0) k) (ap (λ v. v.1) k))))))))))
+      both (opened-written T₁ T₂ z.0 z'.0 z.1 z'.1 (ap (λ v. v.0) k) (ap (λ v. v.1) k))))))))))

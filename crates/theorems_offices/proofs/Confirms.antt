@@ -11,8 +11,9 @@ use Rattle.rules.specs.Judging.{judge}
 use Rattle.rules.specs.Confirming.{ruled, confirmed, confirmedSet, confirmCall}
 use Rattle.rules.specs.Offices.{Name, Keeps, byBytes, nameNo, mapCon, mapBinding, mapAnswer, LentAlike, SolvedAlike}
 use Rattle.laws.specs.NameTable.{Good}
-use Rattle.theorems_offices.proofs.Both.{Both, pair, hence, alike, checked}
-use Rattle.theorems_offices.proofs.Given.{Alike, lent_alike, set_given}
+use Rattle.laws.proofs.Alike.{both, onward}
+use Rattle.theorems_offices.proofs.Both.{Both, checked}
+use Rattle.theorems_offices.proofs.Given.{Alike, lent_alike, constraints-given}
 use Rattle.theorems_offices.proofs.Judging.{judge-map}
 use Rattle.theorems_offices.proofs.Naming.{keeps}
 use Rattle.theorems_offices.proofs.Solves.{solved-set, same}
@@ -55,11 +56,11 @@ module _ {pool table pool' table' : List ℕ} (good : Good pool table) (good' : 
   confirmed-set : (ws ws' : List ℕ) → Alike good good' ws ws' → Both (mapAnswer ν₁) (mapAnswer ν₂) (confirmedSet T₁ ws) (confirmedSet T₂ ws')
   unfolding confirmedSet
   confirmed-set ws ws' e =
-      hence (solved-set good good' ws ws' e) (λ a a' j. hence (set_given good good' ws ws' e) (λ cs cs' i. alike (confirmed-alike cs cs' a a' i j)))
+      onward _ _ (solved-set good good' ws ws' e) (λ a a' j. onward _ _ (constraints-given good good' ws ws' e) (λ cs cs' i. both (confirmed-alike cs cs' a a' i j)))
 
   pub confirm-alike : (ws ws' result result' work work' : List ℕ) → Alike good good' ws ws' → LentAlike result result' work work'
       → SolvedAlike T₁ T₂ (confirmCall pool table ws result work) (confirmCall pool' table' ws' result' work')
   unfolding confirmCall
   confirm-alike ws ws' result result' work work' e r =
-      let s = same good good' (pair _ _ (checked (lent_alike good good' result result' work work' r) (confirmed-set ws ws' e))) in
+      let s = same good good' (checked (lent_alike good good' result result' work work' r) (confirmed-set ws ws' e)) in
       record { answer = s.answer; records = s.records result result' }

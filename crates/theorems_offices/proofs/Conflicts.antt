@@ -16,13 +16,16 @@ use Rattle.rules.specs.Conflicts.{Line, linesFrom, wideOf, remains, conflicting,
 use Rattle.rules.specs.Offices.{Name, Keeps, byBytes, nameNo, mapTy, mapCon, mapAnswer, mapOption, LentAlike, ConflictAlike}
 use Rattle.laws.proofs.Lists.{true≢false}
 use Rattle.laws.specs.NameTable.{Good}
-use Rattle.theorems_offices.proofs.Both.{Both, Pair, neither, both, pair, hence, through, checked}
+use Rattle.laws.proofs.Alike.{both, neither, onward}
+use Rattle.theorems_offices.proofs.Both.{Both, through, checked}
 use Rattle.theorems_offices.proofs.Contents.{keep-map}
-use Rattle.theorems_offices.proofs.Given.{Alike, as_long, short, kept-alike, lent_alike, set_given, apart-alike, set-opens}
+use Rattle.theorems_offices.proofs.Given.{Alike, as_long, short, kept-alike, lent_alike, constraints-given, apart-alike, set-opens}
 use Rattle.theorems_offices.proofs.Naming.{keeps}
 use Rattle.theorems_offices.proofs.Over.{Over, next, gives, same_over}
 use Rattle.theorems_offices.proofs.Results.{front-over}
 use Rattle.theorems_offices.proofs.Solving.{solve-map}
+
+-- ══ Lines with other names ══
 
 module _ {N M : Type 0} (f : N → M) where
   abbrev mapLine : Line N → Line M
@@ -67,6 +70,8 @@ module _ {N M : Type 0} (f : N → M) where
   remains-map (accepted bs ns k) = refl
   remains-map (remaining cs k) = refl
   remains-map (stopped n k) = refl
+
+-- ══ Leaving lines out ══
 
 module _ {N M : Type 0} (ν : Names N) (μ : Names M) (f : N → M) (keeps : Keeps ν μ f) where
   conflicting-map : (ls : List (Line N)) → conflicting μ (map (mapLine f) ls) ≡ conflicting ν ls
@@ -146,6 +151,8 @@ module _ {N M : Type 0} (ν : Names N) (μ : Names M) (f : N → M) (keeps : Kee
       found true = rw (lines-map f 0 cs) (next (leave-map 11 [] (linesFrom 0 cs) []) (λ ls ls' i. gives (rw i)))
       found false = gives refl
 
+-- ══ The call ══
+
 module _ {pool table pool' table' : List ℕ} (good : Good pool table) (good' : Good pool' table') where
   -- the two tables, and the names of their numbers
   abbrev T₁ : Table
@@ -166,7 +173,7 @@ module _ {pool table pool' table' : List ℕ} (good : Good pool table) (good' : 
   conflict-of ws ws' e =
       checked (short (ws ∷ []) (ws' ∷ []) (rw (as_long e)))
       (checked (kept-alike good good')
-      (hence (set_given good good' ws ws' e) (λ cs cs' i.
+      (onward _ _ (constraints-given good good' ws ws' e) (λ cs cs' i.
       checked (apart-alike good good' (collect opensCon cs) (collect opensCon cs') (set-opens good good' cs cs' i))
       (through (conflict-in _ byBytes ν₁ (keeps good) cs) (conflict-in _ byBytes ν₂ (keeps good') cs') (ap (conflictIn byBytes) i)))))
 
@@ -176,15 +183,15 @@ module _ {pool table pool' table' : List ℕ} (good : Good pool table) (good' : 
   fronted : (ls : List (Line ℕ)) (b : List ℕ) → take (length ls) (over (placesOf (some ls)) b) ≡ map (λ l. l.0) ls
   fronted ls b = let e = front-over (map (λ l. l.0) ls) b in rw (length-map ls (λ l. l.0)) at e
 
-  told : {m m' : Got (Option (List (Line ℕ)))} (b b' w w' : List ℕ) → Pair (mapOption (map (mapLine ν₁))) (mapOption (map (mapLine ν₂))) m m'
+  told : {m m' : Got (Option (List (Line ℕ)))} (b b' w w' : List ℕ) → Both (mapOption (map (mapLine ν₁))) (mapOption (map (mapLine ν₂))) m m'
       → ConflictAlike (record { answer = m >>= λ f. got (manyOf f); result = resultAfter (m >>= λ f. got (placesOf f)) b; work = w })
       (record { answer = m' >>= λ f. got (manyOf f); result = resultAfter (m' >>= λ f. got (placesOf f)) b'; work = w' })
   unfolding resultAfter
-  told b b' w w' (neither n) = record { answer = refl; places = refl }
-  told b b' w w' (both none none e) = record { answer = refl; places = refl }
-  told b b' w w' (both none (some ls') e) = absurd (cc)
-  told b b' w w' (both (some ls) none e) = absurd (cc)
-  told b b' w w' (both (some ls) (some ls') e) =
+  told b b' w w' neither = record { answer = refl; places = refl }
+  told b b' w w' (both {a = none} {b = none} e) = record { answer = refl; places = refl }
+  told b b' w w' (both {a = none} {b = some ls'} e) = absurd (cc)
+  told b b' w w' (both {a = some ls} {b = none} e) = absurd (cc)
+  told b b' w w' (both {a = some ls} {b = some ls'} e) =
       let i : map (mapLine ν₁) ls ≡ map (mapLine ν₂) ls' = cc in
       let p = places-alike ls ls' i in
       record {
@@ -196,4 +203,4 @@ module _ {pool table pool' table' : List ℕ} (good : Good pool table) (good' : 
       → ConflictAlike (conflictCall pool table ws result work) (conflictCall pool' table' ws' result' work')
   unfolding conflictCall
   conflict-alike ws ws' result result' work work' e r =
-      told result result' _ _ (pair _ _ (checked (lent_alike good good' result result' work work' r) (conflict-of ws ws' e)))
+      told result result' _ _ (checked (lent_alike good good' result result' work work' r) (conflict-of ws ws' e))

@@ -9,12 +9,13 @@ use Rattle.rules.specs.Calls.{lent, tableKept, workAfter}
 use Rattle.rules.specs.TextReading.{Sofar, Sheet, sheet, refusedIn, sheetRead, handed, fromEntry, sheetGiven, readTextCall}
 use Rattle.rules.specs.Offices.{Name, named, nameNo, mapGot, Office, sameOffice, Shared, tableIn, answered}
 use Rattle.laws.specs.Lists.{and_left, and_right}
+use Rattle.laws.proofs.Alike.{both, neither}
 use Rattle.laws.specs.NameTable.{Good, good-laid, length-names}
 use Rattle.laws.proofs.NameTable.{given-good, held-is, asked-name, name-asked}
 use Rattle.theorems_offices.specs.Deeds.{Deed, enters, reads, Done, leftBy, readIn, afterDeed, afterDeeds, Reply, outcome, replyTo, noThreeIn}
 use Rattle.theorems_offices.specs.Deeds.{deedsBy, repliesTo, hadRoomFor, RepliedAlike, numbers, refusals, sets, EachAlike, none, next}
 use Rattle.theorems_offices.specs.Theorems.{DeedsUnmoved}
-use Rattle.theorems_offices.proofs.Histories.{GoodIn, grown-entry, Stands, refusal, number, name-is, entry-stands}
+use Rattle.theorems_offices.proofs.Histories.{GoodIn, grown-entry, Stands, number, name-is, entry-stands}
 use Rattle.theorems_offices.proofs.Steps.{Grows, grows-same, grows-on, grows-more}
 use Rattle.theorems_offices.proofs.Readings.{SheetsOut, three-at, three-at', refused-at, both-read, sheets-alike}
 use Rattle.theorems_offices.proofs.Writing.{set-written, words-alike}
@@ -62,10 +63,10 @@ deeds-keep (d ∷ ds) s g = let k = deed-keeps s g d.deed in keeps-on k (deeds-k
 
 -- a number that was given has its name later on
 later-name : {s : Shared} {t : Table} {a : Got ℕ} {x : Got Name} → GoodIn s → Grows (tableIn s) t → Stands (tableIn s) a x → mapGot (nameNo t) a ≡ x
-later-name g k (refusal i) = refl
-later-name {s} g k (number i n h e) =
+later-name g k neither = refl
+later-name {s} g k (both (number i n h e)) =
     let held : is_held (tableIn s) i ≡ true = held-is s.pool s.table i ∙ lt-ltb i (get_or s.table 0 0) (omega (arith, h, length-names (good-laid g))) in
-    ap got (k.same i held) ∙ name-is s g (got i) (got (named n)) (number i n h e)
+    ap got (k.same i held) ∙ name-is s g (got i) (got (named n)) (both (number i n h e))
 
 outcome-alike : (s s' : Shared) {t t' : Table} {x x' : Sheet} → SheetsOut (tableIn s) (tableIn s') x x'
     → Grows (tableIn (leftBy s x)) t → Grows (tableIn (leftBy s' x')) t' → noThreeIn (outcome x) ≡ true → noThreeIn (outcome x') ≡ true
@@ -141,7 +142,8 @@ names-stay {pool} {table} {pool'} {table'} g g' k j n e =
     let a = asked-name e in
     let held : is_held (table_of pool table) j ≡ true = held-is pool table j ∙ lt-ltb j (get_or table 0 0) a.held in
     let still : is_held (table_of pool' table') j ≡ true = k.held j held in
-    let name : named (get_or (names_of (table_of pool' table')) j []) ≡ named (get_or (names_of (table_of pool table)) j []) = rw (held, still) at (k.same j held) in
+    let name : named (get_or (names_of (table_of pool' table')) j []) ≡ named (get_or (names_of (table_of pool table)) j []) =
+    rw (held, still) at (k.same j held) in
     name-asked g' j (ltb-true j (get_or table' 0 0) (sym (held-is pool' table' j) ∙ still)) ∙ ap got (one-name name ∙ a.name)
 
 pub reading-keeps : (pool table : List ℕ) (text : Bytes) (result work : List ℕ)

@@ -27,13 +27,14 @@ use Rattle.rules.specs.Offices.{Name, byBytes, nameNo, mapCon, mapBinding, ReadA
 use Rattle.laws.specs.NameTable.{Good}
 use Rattle.laws.proofs.Size.{set-length, bindings-length}
 use Rattle.theorems_offices.proofs.Over.{each_over}
-use Rattle.theorems_offices.proofs.Both.{Both, Pair, neither, both, pair, hence, alike, through, needed, checked}
+use Rattle.laws.proofs.Alike.{both, neither, onward}
+use Rattle.theorems_offices.proofs.Both.{Both, through, needed, checked}
 use Rattle.theorems_offices.proofs.Sizes.{size-cons, size-bindings}
 use Rattle.theorems_offices.proofs.Naming.{keeps}
 use Rattle.theorems_offices.proofs.Rows.{mapProduct, mapSettled, scalar-map, fits-map, eliminated-map}
 use Rattle.theorems_offices.proofs.Writing.{set-written, bindings-written}
 use Rattle.theorems_offices.proofs.Results.{nothing, fronts}
-use Rattle.theorems_offices.proofs.Given.{Alike, as_long, short, kept-alike, lent_alike, set_given, apart-alike, set-opens}
+use Rattle.theorems_offices.proofs.Given.{Alike, as_long, short, kept-alike, lent_alike, constraints-given, apart-alike, set-opens}
 
 module _ {pool table pool' table' : List ℕ} (good : Good pool table) (good' : Good pool' table') where
   -- the two tables, and the names of their numbers
@@ -54,8 +55,8 @@ module _ {pool table pool' table' : List ℕ} (good : Good pool table) (good' : 
   checked-alike ws ws' e =
       checked (short (ws ∷ []) (ws' ∷ []) (rw (as_long e)))
       (checked (kept-alike good good')
-      (hence (set_given good good' ws ws' e) (λ cs cs' i.
-      checked (apart-alike good good' (collect opensCon cs) (collect opensCon cs') (set-opens good good' cs cs' i)) (alike i))))
+      (onward _ _ (constraints-given good good' ws ws' e) (λ cs cs' i.
+      checked (apart-alike good good' (collect opensCon cs) (collect opensCon cs') (set-opens good good' cs cs' i)) (both i))))
 
   scalars-alike : (cs cs' : List (Con ℕ)) → map (mapCon ν₁) cs ≡ map (mapCon ν₂) cs'
       → Both (map (mapProduct ν₁)) (map (mapProduct ν₂)) (each scalarOf cs) (each scalarOf cs')
@@ -68,14 +69,14 @@ module _ {pool table pool' table' : List ℕ} (good : Good pool table) (good' : 
       → Both (map (mapProduct ν₁)) (map (mapProduct ν₂)) (fitting (numbersOf T₁) cs) (fitting (numbersOf T₂) cs')
   unfolding fitting
   fitting-alike cs cs' e =
-      hence (scalars-alike cs cs' e) (λ ps ps' i.
-      hence (needed 8 (sym (fits-map _ byBytes ν₁ (keeps good) ps) ∙ ap (fits byBytes) i ∙ fits-map _ byBytes ν₂ (keeps good') ps')) (λ u u' j. alike i))
+      onward _ _ (scalars-alike cs cs' e) (λ ps ps' i.
+      onward _ _ (needed 8 (sym (fits-map _ byBytes ν₁ (keeps good) ps) ∙ ap (fits byBytes) i ∙ fits-map _ byBytes ν₂ (keeps good') ps')) (λ u u' j. both i))
 
   pub eliminated-set : (ws ws' : List ℕ) → Alike good good' ws ws' → Both (mapSettled ν₁) (mapSettled ν₂) (eliminatedSet T₁ ws) (eliminatedSet T₂ ws')
   unfolding eliminatedSet
   eliminated-set ws ws' e =
-      hence (checked-alike ws ws' e) (λ cs cs' i.
-      hence (fitting-alike cs cs' i) (λ ps ps' j.
+      onward _ _ (checked-alike ws ws' e) (λ cs cs' i.
+      onward _ _ (fitting-alike cs cs' i) (λ ps ps' j.
       through (eliminated-map _ byBytes ν₁ (keeps good) ps) (eliminated-map _ byBytes ν₂ (keeps good') ps') (ap (eliminated byBytes) j)))
 
   record Same (m m' : Got (Settled ℕ)) : Type 0 where
@@ -101,14 +102,14 @@ module _ {pool table pool' table' : List ℕ} (good : Good pool table) (good' : 
         records = λ b b'. fronts T₁ T₂ _ _ _ _ b b' (set-length cs) (set-length cs') (set-written T₁ T₂ cs cs' x);
       }
 
-  same : {m m' : Got (Settled ℕ)} → Pair (mapSettled ν₁) (mapSettled ν₂) m m' → Same m m'
+  same : {m m' : Got (Settled ℕ)} → Both (mapSettled ν₁) (mapSettled ν₂) m m' → Same m m'
   unfolding eliminatedOf
-  same (neither n) = record { answer = refl; records = λ b b'. nothing T₁ T₂ }
-  same (both a a' e) = same-settled a a' e
+  same neither = record { answer = refl; records = λ b b'. nothing T₁ T₂ }
+  same (both {a = a} {b = a'} e) = same-settled a a' e
 
   pub eliminate-alike : (ws ws' result result' work work' : List ℕ) → Alike good good' ws ws' → LentAlike result result' work work'
       → EliminatedAlike T₁ T₂ (eliminateCall pool table ws result work) (eliminateCall pool' table' ws' result' work')
   unfolding eliminateCall
   eliminate-alike ws ws' result result' work work' e r =
-      let s = same (pair _ _ (checked (lent_alike good good' result result' work work' r) (eliminated-set ws ws' e))) in
+      let s = same (checked (lent_alike good good' result result' work work' r) (eliminated-set ws ws' e)) in
       record { answer = s.answer; records = s.records result result' }

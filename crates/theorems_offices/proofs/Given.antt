@@ -33,13 +33,14 @@ use Rattle.rules.specs.Calls.{
   opensBinding,
   opensScheme,
 }
-use Rattle.rules.specs.Offices.{Name, stray, byBytes, nameNo, readBack, ReadAlike, NumbersAlike, LentAlike, mapOpen, mapTy, mapCon, mapBinding, mapScheme}
+use Rattle.rules.specs.Offices.{Name, stray, byBytes, nameNo, readBack, ReadAlike, NumbersAlike, LentAlike, mapOpen, mapTy, mapCon, mapGot, mapBinding, mapScheme}
 use Rattle.laws.proofs.Checks.{need-passed, first-passed, next-passed}
 use Rattle.laws.specs.Lists.{and_left, and_right}
 use Rattle.laws.proofs.Lists.{bound-step}
 use Rattle.laws.specs.NameTable.{Good}
 use Rattle.theorems_offices.proofs.Over.{Over, gives, collect-over}
-use Rattle.theorems_offices.proofs.Both.{Both, Pair, neither, both, pair, hence, alike, there, through, needed}
+use Rattle.laws.proofs.Alike.{both, neither, onward}
+use Rattle.theorems_offices.proofs.Both.{Both, with-names-equal, there, through, needed}
 use Rattle.theorems_offices.proofs.Contents.{all_map, unmixed-map}
 use Rattle.theorems_offices.proofs.Sizes.{opens-map, opens-con, opens-binding}
 use Rattle.theorems_offices.proofs.WellFormed.{good-open, good-ty, good-con, good-binding}
@@ -72,6 +73,8 @@ only-over g (x ∷ y ∷ xs) = record { is = refl }
 
 pub only-alike : {A B : Type 0} (g g' : A → B) (xs xs' : List A) → map g xs ≡ map g' xs' → Both g g' (only xs) (only xs')
 only-alike g g' xs xs' e = through (only-over g xs) (only-over g' xs') (ap only e)
+
+-- ══ What is well formed, and bounds, with names in them ══
 
 -- well formed, over names themselves
 goodNamed : Scheme Name → Bool
@@ -132,6 +135,8 @@ bounds-good : (t : Table) (ws : List ℕ) (os : List (Open ℕ)) → boundsGiven
 unfolding boundsGiven
 bounds-good t ws os e = given-good readBound (goodOpen (numbersOf t) (is_held t) 0) ws os e
 
+-- ══ The checks that look at lengths ══
+
 -- 8 looks at lengths alone
 pub short : (ls ls' : List (List ℕ)) → map length ls ≡ map length ls' → shortLists ls ≡ shortLists ls'
 unfolding shortLists
@@ -183,22 +188,29 @@ module _ {pool table pool' table' : List ℕ} (good : Good pool table) (good' : 
     list-given : (ws ws' : List ℕ) → Alike ws ws' → Both (map g) (map g') (listGiven r goodA ws) (listGiven r goodA' ws')
     unfolding listGiven
     list-given ws ws' e =
-        hence (there 1 (records ws) (records ws') (records-alike (table_of pool table) (table_of pool' table') ws ws' e)) (λ rs rs' i.
-        hence (there 1 (read_all r (length rs) rs) (read_all r (length rs') rs')
+        onward _ _ (there 1 (records ws) (records ws') (records-alike (table_of pool table) (table_of pool' table') ws ws' e)) (λ rs rs' i.
+        onward _ _ (there 1 (read_all r (length rs) rs) (read_all r (length rs') rs')
         (rw (same_length (table_of pool table) (table_of pool' table') rs rs' i)
         (all-agree (table_of pool table) (table_of pool' table') r reads (length rs') rs rs' i))) (λ as' bs j.
-        hence (needed 1 (sym (all_map g goodA goodN is as') ∙ ap (all goodN) j ∙ all_map g' goodA' goodN is' bs)) (λ u u' l. alike j)))
+        onward _ _ (needed 1 (sym (all_map g goodA goodN is as') ∙ ap (all goodN) j ∙ all_map g' goodA' goodN is' bs)) (λ u u' l. both j)))
 
-  pub set_given : (ws ws' : List ℕ) → Alike ws ws'
+  -- ══ Each list that a call is lent ══
+
+  pub constraints-given : (ws ws' : List ℕ) → Alike ws ws'
       → Both (map (mapCon ν)) (map (mapCon ν')) (setGiven (table_of pool table) ws) (setGiven (table_of pool' table') ws')
   unfolding setGiven
-  set_given = list-given readCon (con-agree (table_of pool table) (table_of pool' table')) (goodCon byBytes isNamed 0) _ _
+  constraints-given = list-given readCon (con-agree (table_of pool table) (table_of pool' table')) (goodCon byBytes isNamed 0) _ _
       (good-con _ byBytes ν (keeps good) _ isNamed (held-named (table_of pool table)) 0)
       (good-con _ byBytes ν' (keeps good') _ isNamed (held-named (table_of pool' table')) 0)
 
+  -- as one equation: what the second list is read as, with names in it, is what the first one is
+  pub set_given : (ws ws' : List ℕ) → Alike ws ws'
+      → Over (map (mapCon ν')) (setGiven (table_of pool' table') ws') (mapGot (map (mapCon ν)) (setGiven (table_of pool table) ws))
+  set_given ws ws' e = record { is = with-names-equal (constraints-given ws ws' e) }
+
   pub type-given : (ws ws' : List ℕ) → Alike ws ws' → Both (mapTy ν) (mapTy ν') (typeGiven (table_of pool table) ws) (typeGiven (table_of pool' table') ws')
   unfolding typeGiven
-  type-given ws ws' e = hence (list-given (readTy 64) (ty-agree (table_of pool table) (table_of pool' table') 64) (goodTy byBytes isNamed 0) _ _
+  type-given ws ws' e = onward _ _ (list-given (readTy 64) (ty-agree (table_of pool table) (table_of pool' table') 64) (goodTy byBytes isNamed 0) _ _
       (good-ty _ byBytes ν (keeps good) _ isNamed (held-named (table_of pool table)) 0)
       (good-ty _ byBytes ν' (keeps good') _ isNamed (held-named (table_of pool' table')) 0) ws ws' e) (only-alike (mapTy ν) (mapTy ν'))
 
@@ -220,9 +232,9 @@ module _ {pool table pool' table' : List ℕ} (good : Good pool table) (good' : 
       → Both (mapScheme ν) (mapScheme ν') (schemeGiven (table_of pool table) ws) (schemeGiven (table_of pool' table') ws')
   unfolding schemeGiven
   scheme-given ws ws' e =
-      hence (there 1 (records ws) (records ws') (records-alike (table_of pool table) (table_of pool' table') ws ws' e)) (λ rs rs' i.
-      hence (there 1 (schemeOf rs) (schemeOf rs') (scheme-alike (table_of pool table) (table_of pool' table') rs rs' i)) (λ s s' j.
-      hence (needed 1 (sym (scheme-good good s) ∙ ap goodNamed j ∙ scheme-good good' s')) (λ u u' l. alike j)))
+      onward _ _ (there 1 (records ws) (records ws') (records-alike (table_of pool table) (table_of pool' table') ws ws' e)) (λ rs rs' i.
+      onward _ _ (there 1 (schemeOf rs) (schemeOf rs') (scheme-alike (table_of pool table) (table_of pool' table') rs rs' i)) (λ s s' j.
+      onward _ _ (needed 1 (sym (scheme-good good s) ∙ ap goodNamed j ∙ scheme-good good' s')) (λ u u' l. both j)))
 
   pub numbers-given : (ns ns' : List ℕ) → map ν ns ≡ map ν' ns' → numbersGiven (table_of pool table) ns ≡ numbersGiven (table_of pool' table') ns'
   unfolding numbersGiven
@@ -262,11 +274,11 @@ module _ {pool table pool' table' : List ℕ} (good : Good pool table) (good' : 
   -- bounds, as names
   pub names-given : (ws ws' : List ℕ) → Alike ws ws'
       → Both (λ os. map ν (map word_of os)) (λ os. map ν' (map word_of os)) (boundsGiven (table_of pool table) ws) (boundsGiven (table_of pool' table') ws')
-  names-given ws ws' e = go (boundsGiven (table_of pool table) ws) refl (boundsGiven (table_of pool' table') ws') refl (pair _ _ (bounds-given ws ws' e))
+  names-given ws ws' e = go (boundsGiven (table_of pool table) ws) refl (boundsGiven (table_of pool' table') ws') refl (bounds-given ws ws' e)
     where
       go : (m : Got (List (Open ℕ))) → boundsGiven (table_of pool table) ws ≡ m → (m' : Got (List (Open ℕ))) → boundsGiven (table_of pool' table') ws' ≡ m'
-          → Pair (map (mapOpen ν)) (map (mapOpen ν')) m m' → Both (λ os. map ν (map word_of os)) (λ os. map ν' (map word_of os)) m m'
-      go m p m' q (neither n) = record { is = refl }
-      go m p m' q (both os os' i) = alike
+          → Both (map (mapOpen ν)) (map (mapOpen ν')) m m' → Both (λ os. map ν (map word_of os)) (λ os. map ν' (map word_of os)) m m'
+      go m p m' q neither = neither
+      go m p m' q (both {a = os} {b = os'} i) = both
           (bounds-named (table_of pool table) os (bounds-good (table_of pool table) ws os p) ∙ ap (map nameIn) i
           ∙ sym (bounds-named (table_of pool' table') os' (bounds-good (table_of pool' table') ws' os' q)))

@@ -8,6 +8,7 @@ use Rattle.rules.specs.Names.{Bytes, Table, names_of, is_held, enterChecks, ente
 use Rattle.rules.specs.Offices.{Name, named, nameNo, mapGot, Office, sameOffice, Entering, Shared, tableIn, entered, afterAll, namesBy, answered}
 use Rattle.rules.specs.Offices.{answersTo, answerFor, noThree, hadRoom}
 use Rattle.laws.specs.Lists.{and_left, and_right}
+use Rattle.laws.proofs.Alike.{Alike, both, neither}
 use Rattle.laws.proofs.Lists.{true≢false}
 use Rattle.laws.specs.NameTable.{Good, good-laid, length-names}
 use Rattle.laws.proofs.NameTable.{good-given, held-is, new_is}
@@ -55,22 +56,26 @@ good-after es s g = (grown-all es s g).good
 
 -- ══ One entry ══
 
-pub data Stands (t : Table) : Got ℕ → Got Name → Type 0 where
-  refusal : (k : ℕ) → Stands t (refused k) (refused k)
-  number : (i : ℕ) (n : Bytes) → i < length (names_of t) → get_or (names_of t) i [] ≡ n → Stands t (got i) (got (named n))
+-- the number that a table has for a name
+pub data NumberOf (t : Table) : ℕ → Name → Type 0 where
+  number : (i : ℕ) (n : Bytes) → i < length (names_of t) → get_or (names_of t) i [] ≡ n → NumberOf t i (named n)
+
+-- an answer that is such a number, or the refusal of the name
+abbrev pub Stands : Table → Got ℕ → Got Name → Type 0
+Stands t = Alike (NumberOf t)
 
 stays : (s s' : Shared) → Grown s s' → (a : Got ℕ) (x : Got Name) → Stands (tableIn s) a x → Stands (tableIn s') a x
-stays s s' g a x (refusal k) = refusal k
-stays s s' g a x (number i n h e) = number i n (rw (g.names, length-append (names_of (tableIn s)) g.more) (omega (arith, h)))
-    (ap (λ (ns : List Bytes). get_or ns i []) g.names ∙ get_or-append (names_of (tableIn s)) g.more [] i h ∙ e)
+stays s s' g a x neither = neither
+stays s s' g a x (both (number i n h e)) = both (number i n (rw (g.names, length-append (names_of (tableIn s)) g.more) (omega (arith, h)))
+    (ap (λ (ns : List Bytes). get_or ns i []) g.names ∙ get_or-append (names_of (tableIn s)) g.more [] i h ∙ e))
 
 name-held : (t : Table) (i : ℕ) (n : Bytes) → is_held t i ≡ true → get_or (names_of t) i [] ≡ n → nameNo t i ≡ named n
 unfolding nameNo
 name-held t i n h e = rw (h, e)
 
 pub name-is : (s : Shared) → GoodIn s → (a : Got ℕ) (x : Got Name) → Stands (tableIn s) a x → mapGot (nameNo (tableIn s)) a ≡ x
-name-is s g a x (refusal k) = refl
-name-is s g a x (number i n h e) = ap got
+name-is s g a x neither = refl
+name-is s g a x (both (number i n h e)) = ap got
     (name-held (tableIn s) i n (held-is s.pool s.table i ∙ lt-ltb i (get_or s.table 0 0) (omega (arith, h, length-names (good-laid g)))) e)
 
 new-number : (pool table : List ℕ) (n : Bytes) → Enters pool table n → mapGot (λ a. a.0) (enterNew pool table n).answer ≡ got (get_or table 0 0)
@@ -95,19 +100,19 @@ entry-passed s g n t h = go (enter-case s.pool s.table n)
 
     go : Case s.pool s.table n → Stands (tableIn (entered s n)) (answered s n) (got (named n))
     go (stopped k z e) = absurd (let y : ◌≡◌ {A = ℕ} 0 1 = cc (pass-checks s.pool s.table n passed) in omega arith)
-    go (known i a e) = rw (entered, e) (number i n (omega (arith, a.held, length-names (good-laid g))) a.name)
+    go (known i a e) = rw (entered, e) (both (number i n (omega (arith, a.held, length-names (good-laid g))) a.name))
     go (full q a m e) = absurd (true≢false (sym h ∙ ap (λ (r : Entered). noThree (mapGot (λ a. a.0) r.answer)) e))
     go (new en e) = rw (entered, e, new-number s.pool s.table n en)
-        (number (get_or s.table 0 0) n (rw (names-with en, length-append (names_of (tableIn s)) (n ∷ [])) (omega (arith, length-names (good-laid g))))
+        (both (number (get_or s.table 0 0) n (rw (names-with en, length-append (names_of (tableIn s)) (n ∷ [])) (omega (arith, length-names (good-laid g))))
         (ap (λ (ns : List Bytes). get_or ns (get_or s.table 0 0) []) (names-with en)
-        ∙ get_or_at (names_of (tableIn s)) n [] [] (get_or s.table 0 0) (length-names (good-laid g))))
+        ∙ get_or_at (names_of (tableIn s)) n [] [] (get_or s.table 0 0) (length-names (good-laid g)))))
 
 pub entry-stands : (s : Shared) → GoodIn s → (n : Bytes) → noThree (answered s n) ≡ true → Stands (tableIn (entered s n)) (answered s n) (answerFor n)
 entry-stands s g n h = go (leb 1 (length n) && leb (length n) 48) refl
   where
     go : (b : Bool) → (leb 1 (length n) && leb (length n) 48) ≡ b → Stands (tableIn (entered s n)) (answered s n) (answerFor n)
     go true e = rw e (entry-passed s g n e h)
-    go false e = rw (e, entry-refused s g n e) (refusal 2)
+    go false e = rw (e, entry-refused s g n e) neither
 
 -- ══ A whole history ══
 

@@ -17,12 +17,14 @@ use Rattle.rules.specs.Calls.{opensBinding, Entry, differ, type_at, bindingOf, e
 use Rattle.rules.specs.Offices.{Name, byBytes, nameNo, mapTy, mapCon, mapBinding, mapOption, EntriesAlike}
 use Rattle.laws.proofs.Contents.{same-eqb}
 use Rattle.laws.specs.NameTable.{Good}
-use Rattle.theorems_offices.proofs.Both.{Both, hence, alike, there, needed, same-both, equal-answers, checked, two-checks}
+use Rattle.laws.proofs.Alike.{both, onward}
+use Rattle.theorems_offices.proofs.Both.{Both, there, needed, same-both, equal-answers, checked, two-checks}
 use Rattle.theorems_offices.proofs.Contents.{among-map}
 use Rattle.theorems_offices.proofs.WellFormed.{rising-map, good-ty}
 use Rattle.theorems_offices.proofs.Judging.{judge-map}
 use Rattle.theorems_offices.proofs.Naming.{isNamed, held-named, keeps}
-use Rattle.theorems_offices.proofs.Reading.{seen, records-alike, Cases, neither, both, cases, ty-agree}
+use Rattle.theorems_offices.proofs.Reading.{seen, records-alike, Cases, cases, ty-agree}
+use Rattle.theorems_offices.proofs.Reading as reading
 use Rattle.theorems_offices.proofs.Given.{
   Alike,
   as_long,
@@ -31,7 +33,7 @@ use Rattle.theorems_offices.proofs.Given.{
   kept-alike,
   lent-table,
   lent-work,
-  set_given,
+  constraints-given,
   names-given,
   numbers-given,
   apart-alike,
@@ -44,6 +46,8 @@ dropped : (t : Table) (i : ℕ) (rs : List Rec) → map (seen t) (drop i rs) ≡
 dropped t zero rs = refl
 dropped t (suc i) [] = refl
 dropped t (suc i) (r ∷ rs) = dropped t i rs
+
+-- ══ Names that differ ══
 
 -- no name twice, over names themselves
 pub differNamed : List Name → Bool
@@ -70,56 +74,60 @@ module _ {pool table pool' table' : List ℕ} (good : Good pool table) (good' : 
   abbrev ν₂ : ℕ → Name
   ν₂ = nameNo T₂
 
+  -- ══ Entries and bounds ══
+
   first_alike : (rs rs' : List Rec) → map (seen T₁) rs ≡ map (seen T₂) rs'
       → mapOption (mapTy ν₁) (and_then (readTy 64 rs) (λ r. some r.0)) ≡ mapOption (mapTy ν₂) (and_then (readTy 64 rs') (λ r. some r.0))
   first_alike rs rs' e = go (cases T₁ T₂ _ _ (readTy 64 rs) (readTy 64 rs') ((ty-agree T₁ T₂ 64).agree rs rs' e).is)
     where
       go : {x x' : Option (Ty ℕ × List Rec)} → Cases T₁ T₂ (mapTy ν₁) (mapTy ν₂) x x'
           → mapOption (mapTy ν₁) (and_then x (λ r. some r.0)) ≡ mapOption (mapTy ν₂) (and_then x' (λ r. some r.0))
-      go neither = refl
-      go (both v v' i j) = ap some i
+      go reading.neither = refl
+      go (reading.both v v' i j) = ap some i
 
   pub type-at : (rs rs' : List Rec) (i : ℕ) → map (seen T₁) rs ≡ map (seen T₂) rs' → Both (mapTy ν₁) (mapTy ν₂) (type_at T₁ rs i) (type_at T₂ rs' i)
   unfolding type_at
   type-at rs rs' i e =
-      hence (there 1 (and_then (readTy 64 (drop i rs)) (λ r. some r.0)) (and_then (readTy 64 (drop i rs')) (λ r. some r.0))
+      onward _ _ (there 1 (and_then (readTy 64 (drop i rs)) (λ r. some r.0)) (and_then (readTy 64 (drop i rs')) (λ r. some r.0))
       (first_alike (drop i rs) (drop i rs') (dropped T₁ i rs ∙ ap (drop i) e ∙ sym (dropped T₂ i rs')))) (λ u u' j.
-      hence (needed 1 (sym (good-ty _ byBytes ν₁ (keeps good) _ isNamed (held-named T₁) 0 u) ∙ ap (goodTy byBytes isNamed 0) j
-      ∙ good-ty _ byBytes ν₂ (keeps good') _ isNamed (held-named T₂) 0 u')) (λ x y l. alike j))
+      onward _ _ (needed 1 (sym (good-ty _ byBytes ν₁ (keeps good) _ isNamed (held-named T₁) 0 u) ∙ ap (goodTy byBytes isNamed 0) j
+      ∙ good-ty _ byBytes ν₂ (keeps good') _ isNamed (held-named T₂) 0 u')) (λ x y l. both j))
 
   binding-of : (rs rs' : List Rec) (e e' : Entry) → map (seen T₁) rs ≡ map (seen T₂) rs' → ν₁ e.variable ≡ ν₂ e'.variable → e.place ≡ e'.place
       → Both (mapBinding ν₁) (mapBinding ν₂) (bindingOf T₁ rs e) (bindingOf T₂ rs' e')
   unfolding bindingOf mapBinding
   binding-of rs rs' e e' h i p =
       checked (numbers-given good good' (e.variable ∷ []) (e'.variable ∷ []) (rw i))
-      (rw p (hence (type-at rs rs' e'.place h) (λ u u' j. alike (rw (i, j)))))
+      (rw p (onward _ _ (type-at rs rs' e'.place h) (λ u u' j. both (rw (i, j)))))
 
   all-bindings : (rs rs' : List Rec) → map (seen T₁) rs ≡ map (seen T₂) rs' → (es es' : List Entry)
       → map ν₁ (map (λ e. e.variable) es) ≡ map ν₂ (map (λ e. e.variable) es')
       → map (λ e. e.place) es ≡ map (λ e. e.place) es'
       → Both (map (mapBinding ν₁)) (map (mapBinding ν₂)) (each (bindingOf T₁ rs) es) (each (bindingOf T₂ rs') es')
   unfolding each
-  all-bindings rs rs' h [] [] i p = alike refl
+  all-bindings rs rs' h [] [] i p = both refl
   all-bindings rs rs' h [] (e ∷ es) i p = absurd (cc)
   all-bindings rs rs' h (e ∷ es) [] i p = absurd (cc)
   all-bindings rs rs' h (e ∷ es) (e' ∷ es') i p =
-      hence (binding-of rs rs' e e' h (cc) (cc)) (λ b b' j. hence (all-bindings rs rs' h es es' (cc) (cc)) (λ bs bs' k. alike (rw (j, k))))
+      onward _ _ (binding-of rs rs' e e' h (cc) (cc)) (λ b b' j. onward _ _ (all-bindings rs rs' h es es' (cc) (cc)) (λ bs bs' k. both (rw (j, k))))
 
   entries-given : (es es' : List Entry) (ts ts' : List ℕ) → EntriesAlike T₁ T₂ es es' → Alike good good' ts ts'
       → Both (map (mapBinding ν₁)) (map (mapBinding ν₂)) (entriesGiven T₁ es ts) (entriesGiven T₂ es' ts')
   unfolding entriesGiven
   entries-given es es' ts ts' e f =
-      hence (there 1 (records ts) (records ts') (records-alike T₁ T₂ ts ts' f)) (λ rs rs' h.
-      hence (needed 1 (sym (differ-map good (map (λ e. e.variable) es)) ∙ ap differNamed e.variables.names
+      onward _ _ (there 1 (records ts) (records ts') (records-alike T₁ T₂ ts ts' f)) (λ rs rs' h.
+      onward _ _ (needed 1 (sym (differ-map good (map (λ e. e.variable) es)) ∙ ap differNamed e.variables.names
       ∙ differ-map good' (map (λ e. e.variable) es'))) (λ x y l.
       all-bindings rs rs' h es es' e.variables.names e.places))
 
   rising-given : (bs bs' : List ℕ) → Alike good good' bs bs' → Both (map ν₁) (map ν₂) (risingBounds T₁ bs) (risingBounds T₂ bs')
   unfolding risingBounds
   rising-given bs bs' e =
-      hence (names-given good good' bs bs' e) (λ os os' j.
-      hence (needed 1 (sym (rising-map ν₁ _ byBytes.order (keeps good).ordered (map word_of os)) ∙ ap (rising byBytes.order) j
-      ∙ rising-map ν₂ _ byBytes.order (keeps good').ordered (map word_of os'))) (λ x y l. alike j))
+      onward _ _ (names-given good good' bs bs' e) (λ os os' j.
+      onward _ _ (needed 1 (sym (rising-map ν₁ _ byBytes.order (keeps good).ordered (map word_of os)) ∙ ap (rising byBytes.order) j
+      ∙ rising-map ν₂ _ byBytes.order (keeps good').ordered (map word_of os'))) (λ x y l. both j))
+
+  -- ══ The verdict ══
 
   judged : (bs bs' : List (Binding ℕ)) (ns ns' : List ℕ) (cs cs' : List (Con ℕ)) → map (mapBinding ν₁) bs ≡ map (mapBinding ν₂) bs'
       → map ν₁ ns ≡ map ν₂ ns' → map (mapCon ν₁) cs ≡ map (mapCon ν₂) cs'
@@ -141,9 +149,9 @@ module _ {pool table pool' table' : List ℕ} (good : Good pool table) (good' : 
       (checked (two-checks (short (ws ∷ ts ∷ bs ∷ []) (ws' ∷ ts' ∷ bs' ∷ []) (rw (as_long e, as_long f, as_long g)))
       (few es es' (sym (length-map es (λ e. e.place)) ∙ ap length en.places ∙ length-map es' (λ e. e.place))))
       (checked (kept-alike good good')
-      (hence (set_given good good' ws ws' e) (λ cs cs' i.
-      hence (entries-given es es' ts ts' en f) (λ xs xs' j.
-      hence (rising-given bs bs' g) (λ ns ns' k.
+      (onward _ _ (constraints-given good good' ws ws' e) (λ cs cs' i.
+      onward _ _ (entries-given es es' ts ts' en f) (λ xs xs' j.
+      onward _ _ (rising-given bs bs' g) (λ ns ns' k.
       checked (apart-alike good good' _ _
       (joined good good' (collect opensCon cs) (collect opensCon cs') (collect opensBinding xs) (collect opensBinding xs')
       (set-opens good good' cs cs' i) (binding-opens good good' xs xs' j)))

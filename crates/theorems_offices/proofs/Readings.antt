@@ -23,8 +23,8 @@ use Rattle.laws.specs.Lists.{Every}
 use Rattle.laws.specs.NameTable.{Good}
 use Rattle.laws.proofs.Sorted.{merge-each}
 use Rattle.laws.proofs.Value.{Gives, next, allowed}
-use Rattle.theorems_offices.proofs.Both.{Both, Pair, neither, pair, through}
-use Rattle.theorems_offices.proofs.Both as both
+use Rattle.laws.proofs.Alike.{both, neither}
+use Rattle.theorems_offices.proofs.Both.{Both, through}
 use Rattle.theorems_offices.proofs.Naming.{keeps}
 use Rattle.theorems_offices.proofs.Products.{put_map, multiply-map}
 use Rattle.theorems_offices.proofs.Steps.{Grows, Onward, further, still, Behind, Related, Out, three, three', refusal, Beside, in-turn, gives, Equal, Nothing}
@@ -172,10 +172,10 @@ module _ {pool table pool' table' : List ℕ} (good : Good pool table) (good' : 
 
 placed-product : {t t' : Table} (c : ℕ) (s s' : Sofar) → Behind t t' s s' → (m m' : Got (Product ℕ))
     → Gives m (Every (HeldFactor (table_of s.pool s.table))) → Gives m' (Every (HeldFactor (table_of s'.pool s'.table)))
-    → Pair (map (mapFactor (nameNo (table_of s.pool s.table)))) (map (mapFactor (nameNo (table_of s'.pool s'.table)))) m m'
+    → Both (map (mapFactor (nameNo (table_of s.pool s.table)))) (map (mapFactor (nameNo (table_of s'.pool s'.table)))) m m'
     → Out OneProduct t t' (placed c m s) (placed c m' s')
-placed-product c s s' h m m' g g' (neither n) = refusal n c
-placed-product c s s' h m m' g g' (both.both p p' e) = steps.both p p' s s' h (record { same = e; held = g.holds p refl; held' = g'.holds p' refl })
+placed-product c s s' h m m' g g' (neither {n}) = refusal n c
+placed-product c s s' h m m' g g' (both {a = p} {b = p'} e) = steps.both p p' s s' h (record { same = e; held = g.holds p refl; held' = g'.holds p' refl })
 
 multiplied-alike : {t t' : Table} (p p' : Product ℕ) (f : FactorAt) → OneProduct t t' p p' → Beside OneProduct t t' (multiplied p f) (multiplied p' f)
 unfolding multiplied
@@ -187,7 +187,7 @@ multiplied-alike p p' f r =
           let o = single-alike e (atom-later h.grown (atom-later l i)) in
           placed-product f.column s s' h _ _ (multiply-held (table_of s.pool s.table) p (put a e []) q.held o.held)
           (multiply-held (table_of s'.pool s'.table) p' (put a' e []) q.held' o.held')
-          (pair _ _ (multiply-alike h.good h.good' p p' (put a e []) (put a' e []) q o));
+          (multiply-alike h.good h.good' p p' (put a e []) (put a' e []) q o);
     })))
 
 factors-alike : {t t' : Table} (fs : List FactorAt) (p p' : Product ℕ) → OneProduct t t' p p' → Beside OneProduct t t' (factorsOf fs p) (factorsOf fs p')

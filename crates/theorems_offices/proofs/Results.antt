@@ -9,7 +9,8 @@ use Rattle.rules.specs.Writing.{Rec, words}
 use Rattle.rules.specs.Calls.{over, resultAfter, writing, listing}
 use Rattle.rules.specs.Offices.{Word, nameNo, readBack, ReadAlike, WrittenAlike, ListedAlike}
 use Rattle.laws.proofs.Size.{words-length}
-use Rattle.theorems_offices.proofs.Both.{Both, Pair, neither, both, pair}
+use Rattle.laws.proofs.Alike.{both, neither}
+use Rattle.theorems_offices.proofs.Both.{Both}
 use Rattle.theorems_offices.proofs.Reading.{same_length, seen}
 use Rattle.theorems_offices.proofs.Writing.{words-alike}
 
@@ -63,21 +64,17 @@ module _ (t t' : Table) where
       → WrittenAlike t t' (writing room m result work) (writing room m' result' work')
   unfolding writing resultAfter
   writing-alike (refused n) m m' result result' work work' b = record { answer = refl; records = nothing }
-  writing-alike (got u) m m' result result' work work' b = go (pair m m' b)
-    where
-      go : {m m' : Got (List Rec)} → Pair (map (seen t)) (map (seen t')) m m'
-          → WrittenAlike t t' (writing (got u) m result work) (writing (got u) m' result' work')
-      go (neither n) = record { answer = refl; records = nothing }
-      go (both rs rs' e) = record { answer = ap got (same_length t t' rs rs' e); records = fronts rs rs' (length rs) (length rs') result result' refl refl e }
+  writing-alike (got u) m m' result result' work work' neither = record { answer = refl; records = nothing }
+  writing-alike (got u) m m' result result' work work' (both {a = rs} {b = rs'} e) = record {
+    answer = ap got (same_length t t' rs rs' e);
+    records = fronts rs rs' (length rs) (length rs') result result' refl refl e;
+  }
 
   pub listing-alike : (m m' : Got (List ℕ)) (result result' : List ℕ) → Both (map (nameNo t)) (map (nameNo t')) m m'
       → ListedAlike t t' (listing m result) (listing m' result')
   unfolding listing resultAfter
-  listing-alike m m' result result' b = go (pair m m' b)
-    where
-      go : {m m' : Got (List ℕ)} → Pair (map (nameNo t)) (map (nameNo t')) m m' → ListedAlike t t' (listing m result) (listing m' result')
-      go (neither n) = record { answer = refl; numbers = record { names = refl } }
-      go (both ns ns' e) = record {
-        answer = ap got (sym (length-map ns (nameNo t)) ∙ ap length e ∙ length-map ns' (nameNo t'));
-        numbers = record { names = ap (map (nameNo t)) (front-over ns result) ∙ e ∙ sym (ap (map (nameNo t')) (front-over ns' result')) };
-      }
+  listing-alike m m' result result' neither = record { answer = refl; numbers = record { names = refl } }
+  listing-alike m m' result result' (both {a = ns} {b = ns'} e) = record {
+    answer = ap got (sym (length-map ns (nameNo t)) ∙ ap length e ∙ length-map ns' (nameNo t'));
+    numbers = record { names = ap (map (nameNo t)) (front-over ns result) ∙ e ∙ sym (ap (map (nameNo t')) (front-over ns' result')) };
+  }

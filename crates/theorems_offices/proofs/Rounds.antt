@@ -39,6 +39,8 @@ use Rattle.theorems_offices.proofs.Contents.{names_in, closed-map, same_map, ty_
 use Rattle.theorems_offices.proofs.Views.{map_fn, mapStruct, as-var, as-power, open-seen, seen}
 use Rattle.theorems_offices.proofs.Replacing.{con-map, binding-map, looks-map}
 
+-- ══ Steps, which name nothing else ══
+
 module _ {N M : Type 0} (f : N → M) where
   abbrev pub map_step : Step N → Step M
   map_step (bind x t) = bind (f x) (mapTy f t)
@@ -109,6 +111,8 @@ module _ {N M : Type 0} (f : N → M) where
   unfolding limited
   limited-map l s = rw (size-state f s, depth-state f s) (sized-over (mapState f) l (sizeState s) (depthState s) s)
 
+-- ══ The rules, where names are compared ══
+
 module _ {N M : Type 0} (ν : Names N) (μ : Names M) (f : N → M) (keeps : Keeps ν μ f) where
   bind_to : (x : Option N) (t : Ty N) → bindTo μ (mapOption f x) (mapTy f t) ≡ mapOption (map_step f) (bindTo ν x t)
   unfolding bindTo
@@ -163,6 +167,8 @@ module _ {N M : Type 0} (ν : Names N) (μ : Names M) (f : N → M) (keeps : Kee
       (then_map (mapStruct f) (map_step f) (struct_of c) _ _ (λ v. rw (field_in ν μ f keeps n v.2)
       (then_map (mapTy f) (map_step f) (fieldIn ν n v.2) _ _ (λ u. refl))))))
 
+-- ══ One rule of a constraint ══
+
 module _ {N M : Type 0} (ν : Names N) (μ : Names M) (f : N → M) (keeps : Keeps ν μ f) (l : Limits) where
   dimensions-map : (d : Product N) (o : Option (Product N)) (x : Option N)
       → Over (map_step f) (dimensions ν l d o x) (dimensions μ l (map (mapFactor f) d) (mapOption (map (mapFactor f)) o) (mapOption f x))
@@ -195,6 +201,8 @@ module _ {N M : Type 0} (ν : Names N) (μ : Names M) (f : N → M) (keeps : Kee
   try-map (is_scalar (free (par x) ↑ k ∷ p)) = gives refl
   try-map (is_scalar (base n ↑ k ∷ p)) = gives refl
   try-map (hasField n s t) = gives (rw (field_step ν μ f keeps n s t) (get_d_map (map_step f) (fieldStep ν n s t) stuck))
+
+  -- ══ A round ══
 
   first-map : (cs : List (Con N)) → Over (mapOption (mapTaken f)) (firstStep ν l cs) (firstStep μ l (map (mapCon f) cs))
   unfolding firstStep

@@ -56,6 +56,8 @@ use Rattle.theorems_offices.proofs.Sizes.{opens-map, size-map, depth-map}
 use Rattle.theorems_offices.proofs.Contents.{names_in, same_map, among-map, sort-map, keep-map}
 use Rattle.theorems_offices.proofs.Replacing.{ty-map}
 
+-- ══ Types read plainly, and renamed ══
+
 module _ {N M : Type 0} (f : N → M) where
   plain-dim : (o : Option (Open N)) (p : Product N) → plainDim (mapOption (mapOpen f) o) (map (mapFactor f) p) ≡ mapTy f (plainDim o p)
   unfolding plainDim mapTy
@@ -114,6 +116,8 @@ module _ {N M : Type 0} (f : N → M) where
   vars-map : (xs : List N) → map var (map f xs) ≡ map (mapOpen f) (map var xs)
   vars-map [] = refl
   vars-map (x ∷ xs) = rw (vars-map xs)
+
+-- ══ Quantifying and instantiating ══
 
 module _ {N M : Type 0} (ν : Names N) (μ : Names M) (f : N → M) (keeps : Keeps ν μ f) where
   quantifies-map : (i : ℕ) (v : N) (o : Open N) → quantifies μ i (f v) (mapOpen f o) ≡ mapOption (mapOpen f) (quantifies ν i v o)

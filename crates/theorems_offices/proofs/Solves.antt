@@ -13,13 +13,14 @@ use Rattle.rules.specs.Offices.{Name, byBytes, nameNo, mapCon, mapBinding, mapAn
 use Rattle.laws.proofs.Answers.{records-length}
 use Rattle.laws.specs.NameTable.{Good}
 use Rattle.laws.proofs.Size.{set-length}
-use Rattle.theorems_offices.proofs.Both.{Both, Pair, neither, both, pair, hence, alike, checked}
+use Rattle.laws.proofs.Alike.{both, neither, onward}
+use Rattle.theorems_offices.proofs.Both.{Both, checked}
 use Rattle.theorems_offices.proofs.Sizes.{size-cons, size-bindings}
 use Rattle.theorems_offices.proofs.Solving.{solve-map}
 use Rattle.theorems_offices.proofs.Naming.{keeps}
 use Rattle.theorems_offices.proofs.Writing.{set-written, answer-written}
 use Rattle.theorems_offices.proofs.Results.{nothing, fronts}
-use Rattle.theorems_offices.proofs.Given.{Alike, as_long, short, kept-alike, lent_alike, set_given, apart-alike, set-opens}
+use Rattle.theorems_offices.proofs.Given.{Alike, as_long, short, kept-alike, lent_alike, constraints-given, apart-alike, set-opens}
 
 module _ {pool table pool' table' : List ℕ} (good : Good pool table) (good' : Good pool' table') where
   -- the two tables, and the names of their numbers
@@ -40,9 +41,9 @@ module _ {pool table pool' table' : List ℕ} (good : Good pool table) (good' : 
   solved-set ws ws' e =
       checked (short (ws ∷ []) (ws' ∷ []) (rw (as_long e)))
       (checked (kept-alike good good')
-      (hence (set_given good good' ws ws' e) (λ cs cs' i.
+      (onward _ _ (constraints-given good good' ws ws' e) (λ cs cs' i.
       checked (apart-alike good good' (collect opensCon cs) (collect opensCon cs') (set-opens good good' cs cs' i))
-      (alike (sym (solve-map _ byBytes ν₁ (keeps good) bounded cs) ∙ ap (solve byBytes bounded) i ∙ solve-map _ byBytes ν₂ (keeps good') bounded cs')))))
+      (both (sym (solve-map _ byBytes ν₁ (keeps good) bounded cs) ∙ ap (solve byBytes bounded) i ∙ solve-map _ byBytes ν₂ (keeps good') bounded cs')))))
 
   pub record Same (m m' : Got (Answer ℕ)) : Type 0 where
     pub answer : solvedOf m ≡ solvedOf m'
@@ -81,14 +82,14 @@ module _ {pool table pool' table' : List ℕ} (good : Good pool table) (good' : 
       let z : k ≡ k' = cc in
       record { answer = ap₂ refusedAfter x z; records = λ b b'. nothing T₁ T₂ }
 
-  pub same : {m m' : Got (Answer ℕ)} → Pair (mapAnswer ν₁) (mapAnswer ν₂) m m' → Same m m'
+  pub same : {m m' : Got (Answer ℕ)} → Both (mapAnswer ν₁) (mapAnswer ν₂) m m' → Same m m'
   unfolding solvedOf
-  same (neither n) = record { answer = refl; records = λ b b'. nothing T₁ T₂ }
-  same (both a a' e) = same-answers a a' e
+  same neither = record { answer = refl; records = λ b b'. nothing T₁ T₂ }
+  same (both {a = a} {b = a'} e) = same-answers a a' e
 
   pub solve-alike : (ws ws' result result' work work' : List ℕ) → Alike good good' ws ws' → LentAlike result result' work work'
       → SolvedAlike T₁ T₂ (solveCall pool table ws result work) (solveCall pool' table' ws' result' work')
   unfolding solveCall
   solve-alike ws ws' result result' work work' e r =
-      let s = same (pair _ _ (checked (lent_alike good good' result result' work work' r) (solved-set ws ws' e))) in
+      let s = same (checked (lent_alike good good' result result' work work' r) (solved-set ws ws' e)) in
       record { answer = s.answer; records = s.records result result' }

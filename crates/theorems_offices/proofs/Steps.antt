@@ -1,5 +1,5 @@
 -- Reading text over two tables: the steps of two readings, side by side. Both go on, to values that are alike; both are refused, alike; or one meets 3.
-use Rattle.std.specs.Prelude.{◌≡◌, refl, Bool, true, false, not, List, [], ◌++◌, ℕ, suc, ◌+◌, eqb, leb, length, get_or}
+use Rattle.std.specs.Prelude.{◌≡◌, refl, Bool, true, false, not, List, [], ◌++◌, ℕ, ◌+◌, eqb, leb, length, get_or}
 use Rattle.std.proofs.Common.{sym, ap, ap₂, ◌∙◌, subst, arith, lt-ltb, ltb-true, eqb-true, length-append}
 use Rattle.std.proofs.Math.ListN.{get_or-append}
 use Rattle.rules.specs.Base.{Got, got, refused}
@@ -10,9 +10,9 @@ use Rattle.rules.specs.TextReading.{Sofar, Told, told, refusedAt, Step, onward, 
 use Rattle.rules.specs.Offices.{Name, nameNo, mapGot, Shared, answered, answerFor, noThree}
 use Rattle.rules.specs.Offices as offices
 use Rattle.laws.specs.NameTable.{Good, good-laid, length-names}
+use Rattle.laws.proofs.Alike as alike
 use Rattle.laws.proofs.NameTable.{good-given, held-is}
-use Rattle.theorems_offices.proofs.Histories.{grown-entry, Stands, number, name-is, entry-stands}
-use Rattle.theorems_offices.proofs.Histories as histories
+use Rattle.theorems_offices.proofs.Histories.{grown-entry, NumberOf, Stands, number, name-is, entry-stands}
 
 -- ══ Tables that grow ══
 
@@ -111,6 +111,8 @@ in-turn {A} {A'} {B} {B'} {R} {Q} {t} {t'} {m} {m'} {f} {f'} x k = record { at =
 pub gives : {A B : Type 0} {R : Related A B} {t t' : Table} (a : A) (b : B) → ((u u' : Table) → Onward t t' u u' → R u u' a b) → Beside R t t' (give a) (give b)
 gives a b r = record { at = λ s s' h. both a b s s' h (r (table_of s.pool s.table) (table_of s'.pool s'.table) h.grown) }
 
+-- ══ Steps that hold no names ══
+
 -- values that hold no names
 abbrev pub Equal : {A : Type 0} → Related A A
 Equal t t' a b = a ≡ b
@@ -162,6 +164,8 @@ is-enter : (s : Sofar) → Good s.pool s.table → (n : Bytes) → enterName s.p
 unfolding enterName enter enterChecks
 is-enter s g n = rw (good-given g)
 
+-- ══ One name, entered in both ══
+
 -- what an entry told, over the table that it left: no room, or what its name is answered
 pub data Tells (t : Table) (x : Got Name) : Got (ℕ × Was) → Type 0 where
   room : Tells t x (refused 3)
@@ -189,10 +193,10 @@ entry-tells s g n a i = go a (eqs i) (λ k. entry-stands (shared s) g n k)
         by false q = answer (refused m) (subst (λ (b : Got ℕ). Stands t b (answerFor n)) e (k (ap noThree e ∙ ap not q)))
 
 -- a number that was told has that name
-is-named : {pool table : List ℕ} → Good pool table → (i : ℕ) (m : Bytes) → Stands (table_of pool table) (got i) (got (offices.named m))
+is-named : {pool table : List ℕ} → Good pool table → (i : ℕ) (m : Bytes) → NumberOf (table_of pool table) i (offices.named m)
     → (nameNo (table_of pool table) i ≡ offices.named m) × (is_held (table_of pool table) i ≡ true)
 is-named {pool} {table} g i m (number j n l q) = (
-  inside (name-is (record { pool = pool; table = table }) g (got j) (got (offices.named n)) (number j n l q)),
+  inside (name-is (record { pool = pool; table = table }) g (got j) (got (offices.named n)) (alike.both (number j n l q))),
   held-is pool table j
       ∙ lt-ltb j (get_or table 0 0) (omega (arith, l, length-names (good-laid g))),
 )
@@ -200,21 +204,13 @@ is-named {pool} {table} g i m (number j n l q) = (
     inside : {x y : Name} → got x ≡ got y → x ≡ y
     inside e = cc
 
-same-name : {pool table pool' table' : List ℕ} → Good pool table → Good pool' table' → (i i' : ℕ) (x : Got Name)
-    → Stands (table_of pool table) (got i) x → Stands (table_of pool' table') (got i') x
+same-name : {pool table pool' table' : List ℕ} → Good pool table → Good pool' table' → (i i' : ℕ) (x : Name)
+    → NumberOf (table_of pool table) i x → NumberOf (table_of pool' table') i' x
     → OneName (table_of pool table) (table_of pool' table') i i'
 same-name g g' i i' x (number j m l q) v' =
     let a = is-named g j m (number j m l q) in
     let a' = is-named g' i' m v' in
     record { same = a.0 ∙ sym a'.0; held = a.1; held' = a'.1 }
-
-abbrev codeOf : {A : Type 0} → Got A → ℕ
-codeOf (got a) = 0
-codeOf (refused n) = suc n
-
-stands-code : {t : Table} (a : Got ℕ) (x : Got Name) → Stands t a x → codeOf a ≡ codeOf x
-stands-code a x (histories.refusal k) = refl
-stands-code a x (number i m l q) = refl
 
 -- two entries of one name
 module _ {t t' : Table} (c : ℕ) (s s' : Sofar) (n : Bytes) (h : Behind t t' s s') where
@@ -236,27 +232,25 @@ module _ {t t' : Table} (c : ℕ) (s s' : Sofar) (n : Bytes) (h : Behind t t' s 
       → Out OneName t t' (entered c s e a) (entered c s' e' a')
   both-told x a a' room w' = three c (entered c s' e' a')
   both-told x a a' w room = three' (entered c s e a) c
-  both-told x a a' (answer b v) (answer b' v') = pair b b' v v'
+  both-told x a a' (answer b v) (answer b' v') = pair x b b' v v'
     where
-      numbers : (r r' : ℕ × Was) → Stands (table_of e.pool e.table) (got r.0) x → Stands (table_of e'.pool e'.table) (got r'.0) x
+      numbers : (r r' : ℕ × Was) (m : Name) → NumberOf (table_of e.pool e.table) r.0 m → NumberOf (table_of e'.pool e'.table) r'.0 m
           → Out OneName t t' (entered c s e (got r)) (entered c s' e' (got r'))
-      numbers r r' v v' = both r.0 r'.0 _ _ (record {
+      numbers r r' m v v' = both r.0 r'.0 _ _ (record {
         good = good-entered s h.good;
         good' = good-entered s' h.good';
         grown = further h.grown (record { here = grows-entered s h.good; there = grows-entered s' h.good' });
         records = h.records;
-      }) (same-name (good-entered s h.good) (good-entered s' h.good') r.0 r'.0 x v v')
+      }) (same-name (good-entered s h.good) (good-entered s' h.good') r.0 r'.0 m v v')
 
-      pair : (a a' : Got (ℕ × Was)) → Stands (table_of e.pool e.table) (mapGot (λ r. r.0) a) x → Stands (table_of e'.pool e'.table) (mapGot (λ r. r.0) a') x
-          → Out OneName t t' (entered c s e a) (entered c s' e' a')
-      pair (got r) (got r') v v' = numbers r r' v v'
-      pair (got r) (refused k) v v' = absurd (let i = stands-code (got r.0) x v in let j = stands-code (refused k) x v' in omega arith)
-      pair (refused k) (got r') v v' = absurd (let i = stands-code (refused k) x v in let j = stands-code (got r'.0) x v' in omega arith)
-      pair (refused k) (refused k') v v' =
-          let i = stands-code (refused k) x v in
-          let j = stands-code (refused k') x v' in
-          let z : k ≡ k' = omega arith in
-          rw z (refusal k' c)
+      pair : (y : Got Name) (a a' : Got (ℕ × Was)) → Stands (table_of e.pool e.table) (mapGot (λ r. r.0) a) y
+          → Stands (table_of e'.pool e'.table) (mapGot (λ r. r.0) a') y → Out OneName t t' (entered c s e a) (entered c s' e' a')
+      pair (got m) (got r) (got r') (alike.both v) (alike.both v') = numbers r r' m v v'
+      pair (refused k) (refused k') (refused k'') alike.neither alike.neither = refusal k c
+      pair (got m) (got r) (refused k) v w = elim w [ ]
+      pair (got m) (refused k) a' v w = elim v [ ]
+      pair (refused k) (got r) a' v w = elim v [ ]
+      pair (refused k) (refused k') (got r') v w = elim w [ ]
 
 pub named-alike : {t t' : Table} (n : NameAt) → Beside OneName t t' (named n) (named n)
 unfolding named

@@ -33,10 +33,11 @@ use Rattle.rules.specs.TextWriting.{
 }
 use Rattle.rules.specs.Offices.{Name, bytesIn, nameNo, mapOpen, mapFactor, mapTy, map_tys, mapFields, mapCon, TextAlike}
 use Rattle.laws.specs.NameTable.{Good}
-use Rattle.theorems_offices.proofs.Both.{hence, alike, checked, equal-answers}
+use Rattle.laws.proofs.Alike.{both, onward}
+use Rattle.theorems_offices.proofs.Both.{checked, equal-answers}
 use Rattle.theorems_offices.proofs.Naming.{bytes-are}
 use Rattle.theorems_offices.proofs.Results.{front-over}
-use Rattle.theorems_offices.proofs.Given.{Alike, as_long, short, lent-table, kept-alike, set_given}
+use Rattle.theorems_offices.proofs.Given.{Alike, as_long, short, lent-table, kept-alike, constraints-given}
 
 -- ══ Trees over names, as text ══
 
@@ -95,6 +96,8 @@ conShown (isDim t) = tyShown t ++ ascii ": DType"
 conShown (is_scalar p) = dimensionShown p ++ ascii " = Scalar"
 conShown (hasField n s t) =
     ascii "HasField(" ++ (tyShown s ++ (ascii ", \"" ++ (nameText (bytesIn n) ++ (ascii "\", " ++ (tyShown t ++ ascii ")")))))
+
+-- ══ Trees over numbers, as text ══
 
 -- numbers in place of names: a tree's text is that of the tree with its names
 module _ {pool table : List ℕ} (good : Good pool table) where
@@ -207,7 +210,7 @@ module _ {pool table pool' table' : List ℕ} (good : Good pool table) (good' : 
       (checked (ap (λ (n : ℕ). need (leb 354304 n) 10) r)
       (checked (short (ws ∷ []) (ws' ∷ []) (rw (as_long e)))
       (checked (kept-alike good good')
-      (hence (set_given good good' ws ws' e) (λ cs cs' i. alike (set-text cs cs' i)))))))
+      (onward _ _ (constraints-given good good' ws ws' e) (λ cs cs' i. both (set-text cs cs' i)))))))
 
   pub write-text : (ws ws' : List ℕ) (text text' : Bytes) → Alike good good' ws ws' → length text ≡ length text'
       → TextAlike (writeTextCall pool table ws text) (writeTextCall pool' table' ws' text')

@@ -13,7 +13,8 @@ use Rattle.rules.specs.Values.{ProductValue, productIn, productGiven, multiplyCa
 use Rattle.rules.specs.Offices.{Name, named, stray, byBytes, nameIf, nameNo, mapFactor, ValuesAlike, ProductsAlike}
 use Rattle.laws.specs.NameTable.{Good}
 use Rattle.laws.proofs.NameTable.{good-given}
-use Rattle.theorems_offices.proofs.Both.{Both, hence, alike, there, through, needed, checked}
+use Rattle.laws.proofs.Alike.{both, onward}
+use Rattle.theorems_offices.proofs.Both.{Both, with-names-equal, there, through, needed, checked}
 use Rattle.theorems_offices.proofs.Products.{inverse-map, multiply-map, divide-map, raise-map}
 use Rattle.theorems_offices.proofs.WellFormed.{good-product}
 use Rattle.theorems_offices.proofs.Naming.{isNamed, held-named, keeps}
@@ -55,8 +56,8 @@ module _ {pool table pool' table' : List ℕ} (good : Good pool table) (good' : 
       → Both (map (mapFactor ν₁)) (map (mapFactor ν₂)) (productGiven pool table v) (productGiven pool' table' v')
   unfolding productGiven
   product-given v v' e =
-      hence (there 1 (productIn v) (productIn v') e.product) (λ p p' i.
-      hence (needed 1 (good-as good p ∙ ap (goodProduct byBytes isNamed 4_294_967_296) i ∙ sym (good-as good' p'))) (λ x y l. alike i))
+      onward _ _ (there 1 (productIn v) (productIn v') e.product) (λ p p' i.
+      onward _ _ (needed 1 (good-as good p ∙ ap (goodProduct byBytes isNamed 4_294_967_296) i ∙ sym (good-as good' p'))) (λ x y l. both i))
     where
       good-as : {pool table : List ℕ} (good : Good pool table) (p : Product ℕ)
           → goodProduct (numbersOf (table_of pool table)) (is_held (table_of pool table)) 4_294_967_296 p
@@ -65,29 +66,29 @@ module _ {pool table pool' table' : List ℕ} (good : Good pool table) (good' : 
           (good-product _ byBytes (nameNo (table_of pool table)) (keeps good) _ isNamed (held-named (table_of pool table)) 4_294_967_296 p)
 
   answer : {p p' : Got (Product ℕ)} → Both (map (mapFactor ν₁)) (map (mapFactor ν₂)) p p' → ProductsAlike T₁ T₂ p p'
-  answer b = record { product = b.is }
+  answer b = record { product = with-names-equal b }
 
   pub multiply-alike : (v v' w w' : ProductValue) → ValuesAlike T₁ T₂ v v' → ValuesAlike T₁ T₂ w w'
       → ProductsAlike T₁ T₂ (multiplyCall pool table v w) (multiplyCall pool' table' v' w')
   unfolding multiplyCall
-  multiply-alike v v' w w' e f = answer (checked given-table (hence (product-given v v' e) (λ p p' i. hence (product-given w w' f) (λ q q' j.
+  multiply-alike v v' w w' e f = answer (checked given-table (onward _ _ (product-given v v' e) (λ p p' i. onward _ _ (product-given w w' f) (λ q q' j.
       through (multiply-map _ byBytes ν₁ (keeps good) bounded p q) (multiply-map _ byBytes ν₂ (keeps good') bounded p' q')
       (ap₂ (λ (a b : Product Name). multiply byBytes bounded a b) i j)))))
 
   pub divide-alike : (v v' w w' : ProductValue) → ValuesAlike T₁ T₂ v v' → ValuesAlike T₁ T₂ w w'
       → ProductsAlike T₁ T₂ (divideCall pool table v w) (divideCall pool' table' v' w')
   unfolding divideCall
-  divide-alike v v' w w' e f = answer (checked given-table (hence (product-given v v' e) (λ p p' i. hence (product-given w w' f) (λ q q' j.
+  divide-alike v v' w w' e f = answer (checked given-table (onward _ _ (product-given v v' e) (λ p p' i. onward _ _ (product-given w w' f) (λ q q' j.
       through (divide-map _ byBytes ν₁ (keeps good) bounded p q) (divide-map _ byBytes ν₂ (keeps good') bounded p' q')
       (ap₂ (λ (a b : Product Name). divide byBytes bounded a b) i j)))))
 
   pub inverse-alike : (v v' : ProductValue) → ValuesAlike T₁ T₂ v v' → ProductsAlike T₁ T₂ (inverseCall pool table v) (inverseCall pool' table' v')
   unfolding inverseCall
   inverse-alike v v' e = answer (checked given-table
-      (hence (product-given v v' e) (λ p p' i. alike (sym (inverse-map ν₁ p) ∙ ap inverse i ∙ inverse-map ν₂ p'))))
+      (onward _ _ (product-given v v' e) (λ p p' i. both (sym (inverse-map ν₁ p) ∙ ap inverse i ∙ inverse-map ν₂ p'))))
 
   pub raise-alike : (v v' : ProductValue) (k : Exp) → ValuesAlike T₁ T₂ v v' → ProductsAlike T₁ T₂ (raiseCall pool table v k) (raiseCall pool' table' v' k)
   unfolding raiseCall
-  raise-alike v v' k e = answer (checked given-table (hence (product-given v v' e) (λ p p' i. checked {m = need (goodExp k) 1} refl
+  raise-alike v v' k e = answer (checked given-table (onward _ _ (product-given v v' e) (λ p p' i. checked {m = need (goodExp k) 1} refl
       (through (raise-map _ byBytes ν₁ (keeps good) bounded p k) (raise-map _ byBytes ν₂ (keeps good') bounded p' k)
       (ap (λ (a : Product Name). raise byBytes bounded a k) i)))))

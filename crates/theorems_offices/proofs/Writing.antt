@@ -148,6 +148,8 @@ schemeSeen (concrete t) = line 26 (suc (size t)) (number 0) 1 0 ∷ tySeen t
 schemeSeen (scheme n t bs) = line 26 (suc (size t + length bs)) (number n) 0 0 ∷ (tySeen t ++ map boundSeen bs)
 
 module _ (t : Table) where
+  -- ══ Trees over numbers, written: the same records with names in them ══
+
   -- a record that names something, and one that doesn't, whatever its length
   name-line : (k n a b c : ℕ) → k < 65_536 → namesOne k b ≡ true → seen t (rec (head k n) a b c) ≡ line k n (name (nameNo t a)) b c
   name-line k n a b c h e = rw (kind-head k n h, e)
@@ -221,6 +223,8 @@ module _ (t : Table) where
   con-seen (hasField n s u) =
       let first = name-line 23 (sizeCon (hasField n s u)) n 0 0 (omega arith) refl in
       rw (size-con (nameNo t) (hasField n s u), first, map-append (seen t) (writeTy s) (writeTy u), ty-seen s, ty-seen u)
+
+  -- ══ Bindings, bounds, schemes and sets ══
 
   binding-seen : (b : Binding ℕ) → map (seen t) (writeBinding b) ≡ bindingSeen (mapBinding (nameNo t) b)
   unfolding writeBinding mapBinding bindingSeen namesOne any

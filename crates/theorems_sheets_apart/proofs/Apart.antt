@@ -19,6 +19,8 @@ use Rattle.theorems_sheets_apart.proofs.Findings.{held-alike}
 use Rattle.theorems_sheets_apart.proofs.Pages.{foundText, foundPlace, foundAccepted, text-found, place-found, accepted-found}
 use Rattle.theorems_sheets_apart.proofs.Editions.{pageOf, Stands, stands}
 
+-- ══ Pages by their number ══
+
 -- over a table, what became of a page
 abbrev foundOn : Table → Page → Found
 foundOn t p = found t (findingOf t p.content)
@@ -39,6 +41,8 @@ module _ (e e' : Edition) (k k' : ℕ) (name : Bytes) where
 
   abbrev t' : Table
   t' = table_of e'.pool e'.table
+
+  -- ══ Two pages of one file ══
 
   -- two pages of one file
   same-page : (r : Result Bytes Unseen) (w : Stands e k (name, r)) (w' : Stands e' k' (name, r))
@@ -107,6 +111,8 @@ module _ (e e' : Edition) (k k' : ℕ) (name : Bytes) where
 
       told-of : {a a' : Bytes} {b b' : ℕ} {c c' : Found} → a ≡ a' → b ≡ b' → c ≡ c' → foundText a b 0 c ≡ foundText a' b' 0 c'
       told-of e f h = rw (e, f, h)
+
+-- ══ In all editions ══
 
 pub apart : (pool table pool' table' : List ℕ) → tableGiven pool table ≡ got tt → tableGiven pool' table' ≡ got tt
     → (files files' : List File) (k k' : ℕ) (f : File) → fileAt files k ≡ some f → fileAt files' k' ≡ some f

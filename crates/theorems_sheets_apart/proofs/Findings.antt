@@ -15,7 +15,8 @@ use Rattle.rules.specs.Offices.{Name, byBytes, nameNo, mapCon, mapBinding, mapAn
 use Rattle.rules.specs.Reports.{judgedBy, finding, holding, findingOf}
 use Rattle.rules.specs.Apart.{accepts, leaves, found}
 use Rattle.laws.specs.NameTable.{Good}
-use Rattle.theorems_offices.proofs.Both.{Pair, neither, both, pair}
+use Rattle.laws.proofs.Alike.{both, neither}
+use Rattle.theorems_offices.proofs.Both.{Both}
 use Rattle.theorems_offices.proofs.Judging.{failing-map}
 use Rattle.theorems_offices.proofs.Naming.{keeps}
 use Rattle.theorems_offices.proofs.Solves.{solved-set}
@@ -77,14 +78,13 @@ module _ {pool table pool' table' : List ℕ} (good : Good pool table) (good' : 
         let z : k ≡ k' = cc in
         rw (x, z)
 
-    by-answers : {m m' : Got (Answer ℕ)} → Pair (mapAnswer ν₁) (mapAnswer ν₂) m m'
+    by-answers : {m m' : Got (Answer ℕ)} → Both (mapAnswer ν₁) (mapAnswer ν₂) m m'
         → found T₁ (finding (numbersOf T₁) cs m) ≡ found T₂ (finding (numbersOf T₂) cs' m')
     unfolding finding found
-    by-answers (neither n) = refl
-    by-answers (both a a' i) = of_answers a a' i
+    by-answers neither = refl
+    by-answers (both {a = a} {b = a'} i) = of_answers a a' i
 
     pub held-alike : found T₁ (findingOf T₁ (holding cs)) ≡ found T₂ (findingOf T₂ (holding cs'))
     unfolding findingOf
-    held-alike = by-answers (pair _ _
-        (solved-set good good' (words (collect writeCon cs)) (words (collect writeCon cs'))
-        (words-alike T₁ T₂ (collect writeCon cs) (collect writeCon cs') (set-written T₁ T₂ cs cs' e))))
+    held-alike = by-answers (solved-set good good' (words (collect writeCon cs)) (words (collect writeCon cs'))
+        (words-alike T₁ T₂ (collect writeCon cs) (collect writeCon cs') (set-written T₁ T₂ cs cs' e)))

@@ -45,6 +45,8 @@ module _ {N : Type 0} where
   abbrev pub Alike : Ty N → Ty N → Type 0
   Alike s t = plain s true ≡ plain t true
 
+  -- ══ Types, read plainly ══
+
   -- a product that is one variable is read as the variable, any other stays
   plain-dim : (p : Product N) (k : Bool) (s : Option (Open N)) → single p ≡ s → plain (dim p) k ≡ plainDim s p
   unfolding plain
@@ -82,6 +84,8 @@ module _ {N : Type 0} where
   pub alike_same : (s t : Ty N) → Alike s t → plain s false ≡ plain t false
   alike_same s t e = sym (forget s) ∙ ap (λ (u : Ty N). plain u false) e ∙ forget t
 
+  -- ══ Dimensions ══
+
   -- a type that counts as a dimension is read like that dimension
   single-just : (o : Open N) (d : Product N) → asProduct (opened o) ≡ got d → single (just o) ≡ some o
   unfolding asProduct single
@@ -114,6 +118,8 @@ module _ {N : Type 0} where
       go (some o) i (some w) j h = let z : o ≡ w = cc in single-is p o i ∙ ap just z ∙ sym (single-is r w j)
 
 module _ {N : Type 0} (ν : Names N) where
+  -- ══ Alike types mean the same ══
+
   pub means-same : (s t : Ty N) → plain s false ≡ plain t false → means ν s t ≡ true
   unfolding means
   means-same s t e = is-yes (ty-dec ν (plain s false) (plain t false)) e

@@ -93,6 +93,8 @@ use Rattle.theorems_soundness.proofs.Truth.{FitsIn, Holds, Respects, Equals, equ
 
 module _ {N : Type 0} (ν : Names N) (law : Lawful (orderAtom ν)) (held : N → Bool) (q : ℕ) (tells : Tells (λ a. goodAtom ν held q a ≡ true) (orderAtom ν))
     (bs : List (Binding N)) (bounds : List N) (σg : (o : Open N) (t : Ty N) → bindings ν bs o ≡ some t → GoodTy ν law held q t) where
+  -- ══ What is put in ══
+
   abbrev σ : Look N
   σ = bindings ν bs
 
@@ -303,6 +305,8 @@ module _ {N : Type 0} (ν : Names N) (law : Lawful (orderAtom ν)) (held : N →
             ∙ alike_same (named_by (var x)) b.respected.type b.respected.alike;
       }
 
+  -- ══ Equalities of functions, lists and structures ══
+
   functions-equal : (ps qs : Tys N) (r r' : Ty N) → count ps ≡ count qs → All True (equal r r' ∷ pairs ps qs) → Equal (fn ps r) (fn qs r')
   unfolding replaceTy plain
   functions-equal ps qs r r' n h =
@@ -360,6 +364,8 @@ module _ {N : Type 0} (ν : Names N) (law : Lawful (orderAtom ν)) (held : N →
         holding = rw i (means-same ν u a.right (ap (λ (w : Ty N). plain w false) y ∙ a.same));
       }
 
+  -- ══ Scalars and dimensions ══
+
   first-true : (x : N) (k : Exp) (p r : Product N) → goodProduct ν held q (free (var x) ↑ k ∷ p) ≡ true
       → All Fit (collect openOfFactor (free (var x) ↑ k ∷ p)) → each (otherSide bounded k) p ≡ got r → TrueBind x (dim r)
       → True (is_scalar (free (var x) ↑ k ∷ p))
@@ -397,6 +403,8 @@ module _ {N : Type 0} (ν : Names N) (law : Lawful (orderAtom ν)) (held : N →
   nothing : replaceProduct ν exact σ [] ≡ got []
   unfolding replaceProduct replaceFactors
   nothing = refl
+
+  -- ══ All rules ══
 
   -- a rule takes a constraint away that is true where what it puts in is, and what it binds is respected
   pub rule-true : (c : Con N) (s : Step N) → Rule ν bounded c s → (s ≡ stuck → ⊥) → goodCon ν held q c ≡ true → All Fit (productsOf c)

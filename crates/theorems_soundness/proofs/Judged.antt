@@ -23,6 +23,8 @@ never e = got≢refused (sym e)
 opposite : got false ≡ got true → ⊥
 opposite e = cc
 
+-- ══ An answer that may be 6 ══
+
 -- '6 counts as failure': what an answer stands for
 failed-yes : (r : Got Bool) → failed r ≡ got true → r ≡ got true
 unfolding failed
@@ -52,6 +54,8 @@ failed-refused (refused m) n e = go (eqb m 6) refl
     go false i = let k : ◌≡◌ {A = Got Bool} (refused m) (refused n) = rw (i, failed) at e in k
 
 module _ {N : Type 0} (ν : Names N) (bs : List (Binding N)) (bounds : List N) where
+  -- ══ One constraint ══
+
   -- a constraint in exact arithmetic: what it comes to, and whether that holds
   abbrev judged : Limits → Con N → Got Bool
   judged l c = do
@@ -97,6 +101,8 @@ module _ {N : Type 0} (ν : Names N) (bs : List (Binding N)) (bounds : List N) w
       go : (judged exact c ≡ refused n) ⊎ OfLimits n → OfLimits n
       go (inl i) = absurd (never (sym i ∙ exact-true c t))
       go (inr i) = i
+
+  -- ══ A set ══
 
   -- the constraints of a set, one after the other
   pub yes-solves : (cs : List (Con N)) → judge ν bounded bs bounds cs ≡ got true → Solves ν cs bs bounds

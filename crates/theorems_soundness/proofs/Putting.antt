@@ -57,6 +57,8 @@ module _ {N : Type 0} (ν : Names N) (law : Lawful (orderAtom ν)) (held : N →
   abbrev pub Fitting : Open N → Type 0
   Fitting = Fit ν Held σ
 
+  -- ══ Open names and products, put in ══
+
   -- the products that stand for atoms
   abbrev pub value : Atom N → Product N
   value = value_of σ
@@ -195,6 +197,8 @@ module _ {N : Type 0} (ν : Names N) (law : Lawful (orderAtom ν)) (held : N →
             let y : u ≡ t = cc in
             rw k.0 (worth-kept d (sym (ap asProduct y) ∙ j) (rw k.0 at (f o m)))
         kept o m u d i j (inr k) = absurd (some≢none (sym i ∙ k.1))
+
+    -- ══ Types that become alike, by their parts ══
 
     -- two types that become alike
     pub record Same (u w : Ty N) : Type 0 where

@@ -72,6 +72,8 @@ use Rattle.laws.proofs.RuleCases.{
 }
 use Rattle.laws.proofs.Occurs.{each_opens, opens-each, merge_on, inverse-on, other-opens, products-occur, field-occurs}
 
+-- ══ Open names as they should be ══
+
 module _ {N : Type 0} (Parameter : N → Type 0) (keys : List N) where
   -- an open name of a constraint: a variable is no parameter's name and isn't bound
   abbrev pub OpenOk : Open N → Type 0
@@ -101,6 +103,8 @@ module _ {N : Type 0} (Parameter : N → Type 0) (keys : List N) where
     pub apart : Memᴰ (var x) (opens t) → ⊥
 
 module _ {N : Type 0} where
+  -- ══ The sides of an equality, and pairs ══
+
   -- the two sides of an equality, whichever open names are taken of types and of constraints
   sides-on : (inTy : Ty N → List (Open N)) (inCon : Con N → List (Open N)) → ((s t : Ty N) → inCon (equal s t) ≡ inTy s ++ inTy t)
       → (P : Open N → Type 0) (c : Con N) (s t : Ty N) → Sides c s t → All P (inCon c) → All P (inTy s) × All P (inTy t)
@@ -138,6 +142,8 @@ module _ {N : Type 0} where
       all_cons R (pair t u a.0 b.0) (pairs-on R T Ts apart pair ts us a.1 b.1)
 
 module _ {N : Type 0} (ν : Names N) (law : Lawful (orderAtom ν)) (held : N → Bool) (q : ℕ) where
+  -- ══ Each rule, for all open names ══
+
   -- the first variable of a product stands nowhere else in it
   before-apart : (a : Open N) (p : Product N) → Before ν (free a) p → Memᴰ a (collect openOfFactor p) → ⊥
   unfolding collect
@@ -213,6 +219,8 @@ module _ {N : Type 0} (ν : Names N) (law : Lawful (orderAtom ν)) (held : N →
         rw e (all_cons OkCon (both-sides Ok u t
         (λ v j. absurd (Memᴰ.not-nil (rw o at (Memᴰ.append_right (opensTys as') (field-occurs ν n fs u f v j)))))
         (λ v j. k v (Memᴰ.append_right (opensTys as' ++ opensFields fs) j))) (all_nil OkCon))
+
+  -- ══ Each rule, for the names in dimension products ══
 
   -- what stands in dimension products stood there before
   module _ (P : Open N → Type 0) where

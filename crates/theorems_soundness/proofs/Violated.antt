@@ -12,7 +12,6 @@ use Rattle.rules.specs.Solving.{accepted, solve}
 use Rattle.rules.specs.Meaning.{TrueUnder, Premise}
 use Rattle.rules.specs.Judging.{judge}
 use Rattle.rules.specs.Names.{table_of, numbersOf}
-use Rattle.rules.specs.Calls.{addCall}
 use Rattle.rules.specs.Rules.{rules}
 use Rattle.laws.specs.Lists.{in_head}
 use Rattle.laws.proofs.Lists.{true≢false}
@@ -23,19 +22,7 @@ use Rattle.theorems_soundness.proofs.Runs as Runs
 use Rattle.theorems_soundness.proofs.Judged as Judged
 use Rattle.theorems_soundness.proofs.Unmet as Unmet
 use Rattle.theorems_soundness.specs.Examples.{names, held, fields, product-left, product, products, products-bindings}
-use Rattle.theorems_soundness.proofs.Instances.{
-  ordered,
-  fields-given,
-  fields-accepted,
-  fields-premise,
-  fields-violated,
-  fields-judged,
-  products-given,
-  products-accepted,
-  products-no-premise,
-  products-judged,
-  product-violated,
-}
+use Rattle.theorems_soundness.proofs.Instances.{ordered, fields-given, fields-accepted, fields-premise, fields-violated, products-given, products-accepted, products-judged, product-violated}
 
 -- ══ A Violated constraint has no solution, except for one exception ══
 
@@ -44,10 +31,7 @@ module _ {N : Type 0} (ν : Names N) where
   pub violated-final : (c : Con N) → addTest ν c ≡ violated → (bs : List (Binding N)) (bounds : List N) → TrueUnder ν bs bounds c → OtherFields ν c
   violated-final c says bs bounds holding = Unmet.untrue ν bs bounds c says holding
 
-  -- the exception is exact: such an equality is answered Violated, and is true under all bindings and bounds
-  pub exception-violated : (c : Con N) → OtherFields ν c → addTest ν c ≡ violated
-  exception-violated = Unmet.other-violated ν
-
+  -- the exception is exact: such an equality is answered Violated (Unmet's `other-violated`), and is true under all bindings and bounds
   pub exception-true : (c : Con N) → OtherFields ν c → (bs : List (Binding N)) (bounds : List N) → TrueUnder ν bs bounds c
   exception-true c other bs bounds = Unmet.other-true ν bs bounds c other
 
@@ -71,11 +55,7 @@ module _ {N : Type 0} (ν : Names N) where
 -- ══ The calls on words ══
 
 module _ (pool table con : List ℕ) where
-  -- what `addCall` answers Violated was read as a constraint, and `final` says of it what stands above
-  pub add-call : (buffer : List ℕ) (count records : ℕ) → (addCall pool table buffer count con).answer ≡ got (violated, records) → ViolatedLine pool table con
-  add-call buffer count records says = Unmet.add-call pool table con buffer count records says
-
-  -- an answer that `solveCall` accepted, of a set that holds it
+  -- what `addCall` answers Violated was read as a constraint (Unmet's `add-call`); an answer that `solveCall` accepted, of a set that holds it
   pub accepted-line : {set result work : List ℕ} {records bounds rounds : ℕ} (line : ViolatedLine pool table con)
       (answer : SoundAnswer pool table set result work records bounds rounds)
       → Premise (numbersOf (table_of pool table)) answer.cs answer.bs → Memᴰ line.constraint answer.cs
@@ -92,15 +72,8 @@ pub exception-needed : ¬ ((cs : List (Con ℕ)) (bs : List (Binding ℕ)) (boun
     → solve names bounded cs ≡ accepted bs bounds rounds → Premise names cs bs → (c : Con ℕ) → Memᴰ c cs → ¬ (addTest names c ≡ violated))
 exception-needed claim = claim (fields ∷ []) [] [] 1 fields-given fields-accepted fields-premise fields in_head fields-violated
 
--- so the judge says yes to it
-pub exception-judged : judge names bounded [] [] (fields ∷ []) ≡ got true
-exception-judged = fields-judged
-
--- {x y = boolean, y = scalar} is accepted with x y = boolean Violated, and that is no such equality: x, in a product, is bound to boolean
-pub product-outside : ¬ (Premise names products products-bindings)
-product-outside = products-no-premise
-
--- the judge says no to it
+-- {x y = boolean, y = scalar} is accepted with x y = boolean Violated, and that is no such equality: x, in a product, is bound to boolean. The judge
+-- says no to it
 pub product-fails : Fails names products products-bindings []
 product-fails = Judged.no-fails names products-bindings [] products products-judged
 

@@ -1,4 +1,5 @@
-use Rattle.theorems_soundness.proofs.Violated.{add-call, accepted-line}
+use Rattle.theorems_soundness.proofs.Unmet.{add-call}
+use Rattle.theorems_soundness.proofs.Violated.{accepted-line}
 use Rattle.theorems_soundness.proofs.violated_call_is_final.Goals as goal
 
 pub returns : goal.returns
