@@ -188,7 +188,7 @@ def contains(a, names, one):
         raise Refused(1)
     check_mixed([one])
     found = marks(one)
-    return 0, (int(a["name"] in found[0] or (a["parameters"] != 0 and a["name"] in found[1])), 0, 0), {}
+    return 0, (int(a["name"] in found[0] or (a["parameters"] == 1 and a["name"] in found[1])), 0, 0), {}
 
 
 @asked
@@ -205,7 +205,7 @@ def variables(a):
     one = read(names, a["words"], "one_type")
     check_mixed([one])
     found = marks(one)
-    numbers = sorted(found[0] | (found[1] if a["parameters"] != 0 else set()), key=lambda name: names[name])
+    numbers = sorted(found[0] | (found[1] if a["parameters"] == 1 else set()), key=lambda name: names[name])
     return 0, (len(numbers), 0, 0), {"result": numbers}
 
 

@@ -10,8 +10,11 @@ from values import BASE, LIMIT, PARAMETER, QUANTIFIED, VARIABLE, Refused, factor
 
 SEEDS = [b"x", b"y", b"z", b"a", b"b", b"L", b"M", b"P", b"Q", b"f", b"g", b"xy", b"x\0", b"\xff", b"A b", b"~", b"\n", b"Bool", b"0", b"n" * 48, b"--", b'"',
          b"\xc3\xa9", b"aa", b"ab", b"a" * 47]
-NUMBERS = [0, 1, 2, 3, 4, 5, 7, 8, 10, 11, 13, 14, 20, 24, 25, 26, 63, 64, 65, 255, 256, 257, 2048, 65535, 65536, 65537, 131072, LIMIT, LIMIT + 1, 2**32 - 1,
+NUMBERS = [0, 1, 2, 3, 4, 5, 7, 8, 10, 11, 13, 14, 20, 24, 25, 26, 63, 64, 65, 255, 256, 257, 2048, 65535, 65536, 65537, 131072, 2**30, 2**30 + 1, LIMIT, LIMIT + 1, 2**32 - 1,
            2**32 - 2]
+
+
+BOOL = ("bool",)
 
 
 def words(some):
@@ -145,7 +148,7 @@ class Makes:
         rng = self.rng
         if rng.random() < 0.4:
             return 0, 1, self.type(), []
-        count = rng.randint(0, 4)
+        count = rng.randint(0, 4) if rng.random() < 0.93 else rng.choice([2**31, 2**32 - 1, 256, 65536])
         bounds = [(rng.randrange(count), 1) if count and rng.random() < 0.7 else (self.any_name(), 0) for _ in range(rng.randint(0, 3))]
         return count, 0, self.type(3, count), [bound for bound in bounds if bound[1] or self.names]
 
@@ -175,7 +178,8 @@ def worsen(rng, some):
     elif pick < 0.96:
         some.extend([rng.choice(NUMBERS) for _ in range(rng.randint(1, 5))])
     else:
-        some.extend([0] * max(0, rng.choice([8192, 8193, 8195, 8196, 8200]) - len(some)))
+        size = rng.choice([2047, 2048, 2049, 4096, 4097, 4098, 8188, 8192, 8192, 8193, 8195, 8196, 8200])
+        some.extend([rng.choice([0, 0, some[0] if some else 1])] * max(0, size - len(some)))
     return some
 
 
@@ -223,8 +227,19 @@ def standard(rng, makes, keys):
             table[place] = rng.choice(NUMBERS)
     given = {"pool": pool, "table": table, "answer": words([0xEE] * rng.choice([3] * 20 + [0, 1, 2, 5]))}
     for key in keys:
-        given[key] = FILLED[key][:LEAST[key]]
+        given[key] = filled(rng, makes, key)
     return given
+
+
+def filled(rng, makes, key):
+    """What a buffer holds before the call: a pattern, zero, or records of another set."""
+    size, pick = LEAST[key], rng.random()
+    if pick < 0.6 or isinstance(FILLED[key], bytes) or not makes.names:
+        return FILLED[key][:size]
+    if pick < 0.7:
+        return words(bytes(4 * size))
+    some = words(write_set([("equal", ("var", 0), BOOL), ("scalar", ("dim", ((VARIABLE, 0, 1, 1),))), ("isdim", ("var", 0))]) + [rng.choice(NUMBERS)] * 4)
+    return (some * (size // len(some) + 1))[:size]
 
 
 def faults(rng, given, lists, chance=0.45):
@@ -272,13 +287,25 @@ def with_type(rng):
     return faults(rng, given, ["words"])
 
 
+def soup(rng):
+    """A few records that only look like some."""
+    kinds = [1, 2, 3, 4, 5, 6, 7, 8, 9, 10, 11, 12, 13, 14, 15, 20, 21, 22, 23, 24, 25, 26]
+    some = []
+    for _ in range(rng.randint(1, 5)):
+        length = rng.choice([1, 1, 1, 2, 2, 3, 4, 5])
+        a, b, c = (rng.choice([0, 0, 0, 1, 1, 2, rng.choice(NUMBERS)]) for _ in range(3))
+        some += [rng.choice(kinds) + 65536 * length, a, b, c]
+    return words(some)
+
+
 def check_list(rng):
     makes = Makes(rng)
     pick = rng.randrange(4)
     some = (write_type(makes.type()), write_set(makes.set()), write_scheme(*makes.scheme()),
             [word for one in makes.bindings() for word in write_binding(*one)])[pick]
-    given = dict(standard(rng, makes, ("result", "work")), words=words(some), set=words(some))
-    return faults(rng, given, ["words"])
+    some = words(some) if rng.random() < 0.7 else soup(rng)
+    given = dict(standard(rng, makes, ("result", "work")), words=some, set=some)
+    return faults(rng, given, ["words"], 0.3)
 
 
 def adding(rng):
@@ -414,7 +441,7 @@ def generalising(rng):
 def instantiating(rng):
     makes = Makes(rng)
     scheme = makes.scheme()
-    handed = [makes.any_name() for _ in range(scheme[0] if rng.random() < 0.9 else rng.randint(0, 4))] if makes.names else []
+    handed = [makes.any_name() for _ in range(min(scheme[0], 300) if rng.random() < 0.9 else rng.randint(0, 4))] if makes.names else []
     given = dict(standard(rng, makes, ("result", "work")), scheme=words(write_scheme(*scheme)), names=words(handed))
     return faults(rng, given, ["scheme", "names"], 0.3)
 
@@ -437,7 +464,7 @@ def damaged(rng):
             file[place:place] = bytes(rng.randrange(4) for _ in range(rng.choice([1, 4, 16])))
         else:
             del file[place:]
-    given["file"] = bytes(file)
+    given["file"] = bytes(file) if rng.random() < 0.8 else b"".join(soup(rng).tobytes() for _ in range(5))
     return faults(rng, given, [], 0.15)
 
 

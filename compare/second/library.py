@@ -67,6 +67,7 @@ class Library:
         self.functions = {name: getattr(self.library, "shupkelen_" + name) for name in CALLS}
         for function in self.functions.values():
             function.restype = ctypes.c_uint32
+        self.empty = 0  # every second empty slice is NULL
 
     def run(self, name, given):
         """What is returned, the words of the answer, and the bytes of every slice afterwards."""
@@ -81,7 +82,9 @@ class Library:
             else:
                 buffer = bytearray(GUARD + packed(value, kind) + GUARD)
                 slices[key] = buffer
-                passed.append(ctypes.c_void_p(ctypes.addressof(ctypes.c_char.from_buffer(buffer)) + len(GUARD)))
+                self.empty += len(value) == 0
+                null = len(value) == 0 and self.empty % 2
+                passed.append(ctypes.c_void_p(None if null else ctypes.addressof(ctypes.c_char.from_buffer(buffer)) + len(GUARD)))
                 passed.append(ctypes.c_size_t(len(value)))
         said = self.functions[name](*passed)
         return said, slices

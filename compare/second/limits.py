@@ -1,12 +1,8 @@
 """Inputs at the limits: 2,048 records, 64 nested types, 64 factors, 256 names, 64 sets, 128 steps; and what of 6, 7 and 8 is met first."""
 
-from array import array
-
-from cases import FILLED, LEAST, Makes, faults, standard, words, worsen
+from cases import BOOL, FILLED, Makes, faults, standard, words, worsen
 from records import size, write_binding, write_bounds, write_constraint, write_scheme, write_set, write_type
 from values import BASE, LIMIT, PARAMETER, QUANTIFIED, VARIABLE, factor_order
-
-BOOL = ("bool",)
 
 
 class Wide(Makes):
@@ -250,6 +246,35 @@ def well_typed(rng):
     return faults(rng, given, ["steps", "types", "lines", "names"], 0.06)
 
 
+def large_line(rng):
+    """Lines over types of many records: over 2,048 in the set, or in what the judge puts in."""
+    makes = few(rng)
+    makes.names = [b"x", b"a", b"P", b"L"] + [b"t%d" % i for i in range(12)]
+    makes.vars, makes.pars = [0], [1] if rng.random() < 0.8 else [0]
+    given = standard(rng, makes, ("result", "work"))
+    types, places, steps = [], [], []
+    for _ in range(rng.randint(1, 3)):
+        one = big(rng, makes, rng.choice([20, 400, 670, 680, 1000, 1015, 1020, 1023, 2040]))
+        if rng.random() < 0.2:
+            one = rng.choice([makes.dim(), ("par", 1), ("list", ("par", 1))])
+        if len(types) // 4 + size(one) <= 2048:
+            places.append(len(types) // 4)
+            types += write_type(one)
+    count = rng.choice([1, 1, 2, 3])
+    steps = [[2, rng.randrange(len(places)), 0, 0] for _ in range(count)]
+    if count == 3:
+        steps[0] = [2, len(places), 0, 0]
+        places.append(len(types) // 4)
+        types += write_type(BOOL)
+    steps += {1: [], 2: [[rng.choice([3, 5, 8]), 0, 0, 0]], 3: [[9, 0, 0, 0]]}[count]
+    given.update(steps=words([word for step in steps for word in step]), types=words(types), lines=words(places), names=words(range(4, 4 + len(steps))))
+    return faults(rng, given, ["steps", "types", "lines", "names"], 0.05)
+
+
+def any_line(rng):
+    return (well_typed if rng.random() < 0.6 else large_line)(rng)
+
+
 def large_scheme(rng, key="scheme"):
     wide = rng.random() < 0.4
     makes = Wide(rng) if wide else few(rng)
@@ -266,8 +291,12 @@ def large_scheme(rng, key="scheme"):
         if rng.random() < 0.1:
             given["names"] = words([makes.any_name()] * rng.choice([256, 2047, 2048, 2049]))
         return faults(rng, given, ["words", "bounds", "names"], 0.05)
+    handed = [makes.any_name() for _ in range(count)]
+    if key == "names" and rng.random() < 0.15:
+        count = rng.choice([255, 256, 2047, 2048, 2049])
+        handed = [makes.any_name()] * (count + rng.choice([0, 0, 0, 1, -1]))
     scheme = (0, 1, one, []) if concrete else (count, 0, one, [] if key == "scheme" else used)
-    given.update(scheme=words(write_scheme(*scheme)), bounds=words(write_bounds(used)), names=words([makes.any_name() for _ in range(count)]))
+    given.update(scheme=words(write_scheme(*scheme)), bounds=words(write_bounds(used)), names=words(handed))
     return faults(rng, given, ["scheme", "bounds"] if key == "scheme" else ["scheme", "names"], 0.05)
 
 
@@ -391,7 +420,7 @@ def large_batch(rng):
 
 MAKERS = {
     "ceiling": any_set, "add": full_adding, "replace_in_type": large_replacing, "replace_in_set": large_replacing_set, "solve": any_set,
-    "confirm": any_set, "solve_all": large_batch, "eliminate": rows, "judge": large_judged, "check_line": well_typed, "quantify": large_quantify,
+    "confirm": any_set, "solve_all": large_batch, "eliminate": rows, "judge": large_judged, "check_line": any_line, "quantify": large_quantify,
     "generalise": large_scheme, "instantiate": large_instantiate, "rescue": large_file, "compact": large_compact, "write_text": large_written,
     "read_text": long_sheet,
 }
