@@ -369,6 +369,8 @@ module _ (e : ℕ) where
       in-turn column (λ c. (λ p. spell ws (skip p)) >> give (basicAt c b)) column-in
       (λ c hc. in-turn (λ p. spell ws (skip p)) (λ u. give (basicAt c b)) (sign-in ws) (λ u hu. given (basicAt c b) (hc, omega arith)))
 
+  -- ══ Functions and lists ══
+
   -- types whose inside stays in the line, nested at most d deep
   module _ (ty : Rule TyAt) (d : ℕ) (inner : Stays ty (Types d)) where
     more-tys : (n : ℕ) → Stays (moreTys ty n) (Lists d)
@@ -421,6 +423,8 @@ module _ (e : ℕ) where
         (λ u hu. in-turn (sign "<") (λ v. ty >>= λ t. sign ">" >> give (listAt c t)) (sign-in (ascii "<"))
         (λ v hv. in-turn ty (λ t. sign ">" >> give (listAt c t)) inner
         (λ t ht. in-turn (sign ">") (λ w. give (listAt c t)) (sign-in (ascii ">")) (λ w hw. given (listAt c t) ((hc, ht.0), omega (arith, ht.1)))))))
+
+    -- ══ Structures ══
 
     more-fields : (n : ℕ) → Stays (moreFields ty n) (Members d)
     unfolding moreFields TyIn depthAt
@@ -500,6 +504,8 @@ module _ (e : ℕ) where
         ),
       ),
     )
+
+  -- ══ All types, to the depth that is read ══
 
   deep_in : Stays tooDeep (Types 0)
   unfolding TyIn depthAt

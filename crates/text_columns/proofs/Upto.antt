@@ -19,6 +19,8 @@ use Rattle.text_laws.proofs.Promise.{read-on}
 use Rattle.text_columns.specs.Cut.{Cut, line_at}
 use Rattle.text_columns.specs.Upto.{Upto, Whole}
 
+-- ══ What a line adds ══
+
 -- what a line did that is read: its constraints are told, and their records written behind those before
 pub record LineAdds (l : Bytes) (s : Sofar) (d : List ℕ) (c : ℕ) (s' : Sofar) (d' : List ℕ) : Type 0 where
   pub cons : List (Con ℕ)
@@ -56,6 +58,8 @@ both cs ds dst d d' n e f g =
       there = g ∙ rw (f, k) (sym (sets-append (words a) (words b) dst 0))
           ∙ ap (sets dst 0) (sym (words_append a b) ∙ sym (ap words (collect-append writeCon cs ds)));
     }
+
+-- ══ A sheet, read so far ══
 
 module _ (pool table text dst : List ℕ) where
   pub begins : Upto pool table text dst 0 0 0 (unread pool table) dst

@@ -111,12 +111,14 @@ module _ {line : Bytes} {p a q : Point} (t o : Product) (c : Point) {at : ℕ}
     halted = h;
   }
 
+-- ══ More factors, whatever follows ══
+
 -- whatever follows at q follows from p
 pub record Further (line : Bytes) (p : Point) (t : Tree) (x : Lent) (q : Point) (u : Tree) (y : Lent) : Type 0 where
-  pub so : (r : Point) (o : Product) (z : Lent) → Kept y z → MoreDone line q u y r o z → MoreDone line p t x r o z
+  pub follows : (r : Point) (o : Product) (z : Lent) → Kept y z → MoreDone line q u y r o z → MoreDone line p t x r o z
 
 pub further-here : {line : Bytes} {p : Point} {t : Tree} {x : Lent} → Further line p t x p t x
-further-here = record { so = λ r o z k m. m }
+further-here = record { follows = λ r o z k m. m }
 
 abbrev starred : ℕ → Rule (List FactorAt)
 starred n = sign "*" >> (factor >>= λ f. moreFactors n >>= λ fs. give (f ∷ fs))
@@ -141,7 +143,7 @@ module _ {line : Bytes} {q a b : Point} (t u : Product) {y w : Lent} (within : P
       factors-then u (productOf t) f fs kept (hf (not-bad m nb)) (hs nb))))))
 
   pub further-on : {p : Point} {s : Tree} {v : Lent} → Further line p s v q (productOf t) y → Further line p s v b (productOf u) w
-  further-on f = record { so = λ r o z kept m. f.so r o z (kept_then d.kept kept) (one_more r o z kept m) }
+  further-on f = record { follows = λ r o z kept m. f.follows r o z (kept_then d.kept kept) (one_more r o z kept m) }
 
   pub further-less : left_at line b < left_at line q
   further-less = omega (arith, d.reads.onward, x.less, begun line 42 q within e)
@@ -153,7 +155,7 @@ no_more {line} {q} {t} {y} i e (suc n) h = if-no-sign "*" (starred n) (give []) 
 
 pub further-ends : {line : Bytes} {p q : Point} {s : Tree} {t : Product} {v y : Lent} → Kept y y → PointIn line q → false ≡ beginsAt line q 42
     → Further line p s v q (productOf t) y → MoreDone line p s v q t y
-further-ends {line} {p} {q} {s} {t} {v} {y} k i e f = f.so q t y k (no_more i e)
+further-ends {line} {p} {q} {s} {t} {v} {y} k i e f = f.follows q t y k (no_more i e)
 
 module _ {line : Bytes} {p f r : Point} {x y z : Lent} {u o : Product} where
   pub factors-done : false ≡ beginsAt line p 93 → Done line factor (multiplied []) (ProductIs u) p x f y → Kept y z → Halted r z.stand
@@ -180,17 +182,19 @@ no-factors o f i k h e = record {
   halted = h;
 }
 
+-- ══ The loop ══
+
 -- what the loop has done so far
 pub record Following (line : Bytes) (p : Point) (q : Product) (pool table : List ℕ) (s : Stand) (r : Point) (o : Product) (pool' table' : List ℕ)
     (s' : Stand) : Type 0 where
   pub ready : Ready line r pool' table' s'
   pub well : Well pool' table' o
   pub kept : (dst : List ℕ) → Kept (lent pool table dst s) (lent pool' table' dst s')
-  pub so : (dst : List ℕ) → Further line p (productOf q) (lent pool table dst s) r (productOf o) (lent pool' table' dst s')
+  pub further : (dst : List ℕ) → Further line p (productOf q) (lent pool table dst s) r (productOf o) (lent pool' table' dst s')
 
 pub following-here : {line : Bytes} {p : Point} {q : Product} {pool table : List ℕ} {s : Stand} → Ready line p pool table s → Well pool table q
     → Following line p q pool table s p q pool table s
-following-here h w = record { ready = h; well = w; kept = λ dst. kept_same h.good h.room; so = λ dst. further-here }
+following-here h w = record { ready = h; well = w; kept = λ dst. kept_same h.good h.room; further = λ dst. further-here }
 
 module _ {line : Bytes} {p r : Point} {q o : Product} {pool table pool' table' : List ℕ} {s s' : Stand}
     (f : Following line p q pool table s r o pool' table' s') where
@@ -202,7 +206,7 @@ module _ {line : Bytes} {p r : Point} {q o : Product} {pool table pool' table' :
     ready = ready-next (d []);
     well = w;
     kept = λ dst. kept_then (f.kept dst) (d dst).kept;
-    so = λ dst. further-on o u f.ready.within e x (d dst) (f.so dst);
+    further = λ dst. further-on o u f.ready.within e x (d dst) (f.further dst);
   }
 
   pub following-ends : false ≡ beginsAt line r 42 → Followed line p q pool table s r o pool' table' s'
@@ -210,5 +214,5 @@ module _ {line : Bytes} {p r : Point} {q o : Product} {pool table pool' table' :
     ready = f.ready;
     well = f.well;
     kept = f.kept;
-    more = λ dst. further-ends (kept-last (f.kept dst)) f.ready.within e (f.so dst);
+    more = λ dst. further-ends (kept-last (f.kept dst)) f.ready.within e (f.further dst);
   }

@@ -68,17 +68,17 @@ told-good (Err why) m n d q = unit-good
 
 -- whatever the rule reads has the column c
 record Columned (c : ℕ) (R : Rule PowerAt) : Type 0 where
-  so : (p q : Place) (v : PowerAt) → R p ≡ read v q → v.column ≡ c
+  same-column : (p q : Place) (v : PowerAt) → R p ≡ read v q → v.column ≡ c
 
 columned-then : {A : Type 0} (c : ℕ) (R : Rule A) (K : A → Rule PowerAt) → ((a : A) → Columned c (K a)) → Columned c (λ p. pass (R p) K)
-columned-then c R K k = record { so = λ p q v e. go (R p) q v e }
+columned-then c R K k = record { same-column = λ p q v e. go (R p) q v e }
   where
     go : (m : Parsed _) (q : Place) (v : PowerAt) → pass m K ≡ read v q → v.column ≡ c
-    go (read a p) q v e = (k a).so p q v e
+    go (read a p) q v e = (k a).same-column p q v e
     go (bad d) q v e = absurd (cc)
 
 columned-give : (v : PowerAt) → Columned v.column (give v)
-columned-give v = record { so = λ p q w e. let z : v ≡ w = cc in ap (λ (u : PowerAt). u.column) (sym z) }
+columned-give v = record { same-column = λ p q w e. let z : v ≡ w = cc in ap (λ (u : PowerAt). u.column) (sym z) }
 
 abbrev powerWith : ℕ → Bool → ℕ → ℕ → PowerAt
 powerWith c m n d = record { column = c; numerator = signedBy m n; denominator = d }
@@ -92,7 +92,7 @@ power-columned p q v e =
     (λ u. columned-then c minusThere (λ m. digits >>= λ n. denominatorThere >>= λ d. sign ")" >> give (powerWith c m n d))
     (λ m. columned-then c digits (λ n. denominatorThere >>= λ d. sign ")" >> give (powerWith c m n d))
     (λ n. columned-then c denominatorThere (λ d. sign ")" >> give (powerWith c m n d))
-    (λ d. columned-then c (sign ")") (λ u. give (powerWith c m n d)) (λ u. columned-give (powerWith c m n d)))))))).so (skip p) q v e
+    (λ d. columned-then c (sign ")") (λ u. give (powerWith c m n d)) (λ u. columned-give (powerWith c m n d)))))))).same-column (skip p) q v e
 
 -- what is read up to a point that is not refused
 record ReadTo {A : Type 0} (line : Bytes) (q : Point) (v : A) : Type 0 where

@@ -57,6 +57,8 @@ pub written-length : (t : Tree) → length (writeProduct t) ≡ suc (length t)
 unfolding writeProduct
 written-length t = ap suc (length-map t writeFactor)
 
+-- ══ Its steps: counted, its factors, counted again ══
+
 abbrev closing : ℕ → Tree → Step Tree
 closing e t = TextReading.◌>>◌ (counted (length t) e) (TextReading.give t)
 
@@ -145,6 +147,8 @@ module _ (q : Product) {pool table pool' table' dst dst' : List ℕ} (s s₁ s�
           ∙ told_same (last ∙ ap (countOf (length (productOf q)) at₂) p₂) p₃
       refuses i n d r p p₃ (Ok tally) p₁ (Ok tally') p₂ = stop-last i n tally.names tally.records p p₁ tally'.names tally'.records d r p₂ p₃
 
+-- ══ A dimension as a type ══
+
 -- as a type
 dim-effect : {x y : Lent} (t : TyAt) → Kept y y → DimMeant t x y → Effect (ty_of t) (Writes writeTy) x y
 unfolding ty_of writeTy
@@ -162,6 +166,8 @@ dim-done d = record {
   kept = d.kept;
   halted = d.halted;
 }
+
+-- ══ A dimension, as it is read ══
 
 module _ {line : Bytes} {p a b r : Point} {pool table pool' table' dst dst' : List ℕ} {s s₁ s₂ s₃ : Stand} {at at₂ long : ℕ} (q : Product) (c e : Point) where
   pub dimension-done : Ready line p pool table s → Reads line p column (λ (k : ℕ). k ≡ columnAt c) c → at ≡ place_of c → s₁ ≡ countOf 1 at s

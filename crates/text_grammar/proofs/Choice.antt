@@ -15,6 +15,8 @@ use Rattle.text_grammar.proofs.Factors.{pick_other, choose-this, choose-none}
 use Rattle.text_grammar.specs.declared.inner.Point.TheVariants as point
 use Rattle.text_grammar.specs.Choice.{ruled, among, heads, deepRuled}
 
+-- ══ The rule for each first byte ══
+
 no-head : (d c : ℕ) → pick 0 (types (type d)) (here c []) ≡ bad c
 no-head d c = refl
 
@@ -49,6 +51,8 @@ module _ {P : TyAt → Type 0} {line : Bytes} {s r : Point} (d : ℕ) where
   pub by-structure : byte_of line s ≡ 64 → Reads line s (structure (type d)) P r → Reads line s (ruled d) P r
   by-structure e y = by_byte 64 (structure (type d)) (omega arith) refl e y
 
+-- ══ A byte of no type ══
+
 -- the byte of no type: no rule fits
 not_left : (a b : Bool) → (a || b) ≡ false → a ≡ false
 not_left true b e = absurd (true≢false e)
@@ -78,6 +82,8 @@ pub type-by : {P : TyAt → Type 0} {line : Bytes} {p s r : Point} (d : ℕ) →
     → Reads line p (type (suc d)) P r
 unfolding type
 type-by d x y = in-turn column (λ c. ruled d) x (λ c hc. y)
+
+-- ══ Types that are nested too deep ══
 
 no-deep : (c : ℕ) → pick 0 deepTypes (here c []) ≡ bad c
 no-deep c = refl

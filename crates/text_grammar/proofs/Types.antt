@@ -16,6 +16,8 @@ use Rattle.text_grammar.specs.Signs.{spelled}
 use Rattle.text_grammar.specs.declared.inner.Point.TheVariants as point
 use Rattle.text_grammar.specs.Types.{paramsThere, types_in, typesThere, fieldsIn, fieldsThere, withName, fieldRule}
 
+-- ══ The same rule, and whatever follows ══
+
 -- a rule that is the same everywhere reads the same
 from-same : {A : Type 0} {R S : Rule A} (line : Bytes) (p : Point) → ((q : Place) → R q ≡ S q) → from line p R ≡ from line p S
 from-same line (point.At i) f = f (place_in line i)
@@ -32,12 +34,14 @@ Whatever M line p P r = (n : ℕ) → left_at line p ≤ n → Reads line p (M n
 -- whatever follows at q follows from p: P and Q say what is known of what is read from p and from q, by where it ends (r) and what there is then (z)
 pub record Onto {B Z : Type 0} (M : ℕ → Rule B) (line : Bytes) (p : Point) (P : Point → Z → B → Type 0) (q : Point) (Q : Point → Z → B → Type 0) : Type 0 where
   pub within : PointIn line q
-  pub so : (r : Point) (z : Z) → Whatever M line q (Q r z) r → Whatever M line p (P r z) r
+  pub follows : (r : Point) (z : Z) → Whatever M line q (Q r z) r → Whatever M line p (P r z) r
 
 pub onto-here : {B Z : Type 0} (M : ℕ → Rule B) {line : Bytes} {p : Point} (P : Point → Z → B → Type 0) → PointIn line p → Onto M line p P p P
-onto-here M P i = record { within = i; so = λ r z f. f }
+onto-here M P i = record { within = i; follows = λ r z f. f }
 
 module _ (ty : Rule TyAt) where
+  -- ══ Types, one after another ══
+
   abbrev nextTy : ℕ → Rule TysAt
   nextTy n = sign "," >> (ty >>= λ t. moreTys ty n >>= λ ts. give (consAt t ts))
 
@@ -58,7 +62,7 @@ module _ (ty : Rule TyAt) where
     pub tys-go : {a b : Point} {T : TyAt → Type 0} (W : Point → Z → TysAt → Type 0) → true ≡ beginsAt line q 44 → MarkRead line q 44 a → Reads line a ty T b
         → ((r : Point) (z : Z) (t : TyAt) (ts : TysAt) (n : ℕ) → T t → Reads line b (moreTys ty n) (W r z) r → W r z ts → Q r z (consAt t ts))
         → Onto (moreTys ty) line p P b W
-    tys-go W e x y f = record { within = y.within; so = λ r z k. m.so r z (one-ty e x y r (f r z) k) }
+    tys-go W e x y f = record { within = y.within; follows = λ r z k. m.follows r z (one-ty e x y r (f r z) k) }
 
     pub tys-less : {a b : Point} {T : TyAt → Type 0} → true ≡ beginsAt line q 44 → MarkRead line q 44 a → Reads line a ty T b → left_at line b < left_at line q
     tys-less e x y = omega (arith, y.onward, x.less, begun line 44 q m.within e)
@@ -69,7 +73,7 @@ module _ (ty : Rule TyAt) where
     no-ty e u (suc n) h = if-no-sign "," (nextTy n) (give nilAt) e (given nilAt m.within u)
 
     pub tys-end : (z : Z) → false ≡ beginsAt line q 44 → Q q z nilAt → Whatever (moreTys ty) line p (P q z) q
-    tys-end z e u = m.so q z (no-ty e u)
+    tys-end z e u = m.follows q z (no-ty e u)
 
   pub tys-read : {line : Bytes} {p f r : Point} {T : TyAt → Type 0} {U Q : TysAt → Type 0} → Reads line p ty T f → Whatever (moreTys ty) line f U r
       → ((t : TyAt) (ts : TysAt) (n : ℕ) → T t → Reads line f (moreTys ty n) U r → U ts → Q (consAt t ts)) → Reads line p (tys ty) Q r
@@ -77,6 +81,8 @@ module _ (ty : Rule TyAt) where
       in-turn ty (λ t. left >>= λ n. moreTys ty n >>= λ ts. give (consAt t ts)) x
       (λ t ht. in-turn left (λ n. moreTys ty n >>= λ ts. give (consAt t ts)) (left_there line f x.within)
       (λ n hn. let z = y n hn in in-turn (moreTys ty n) (λ ts. give (consAt t ts)) z (λ ts hs. given (consAt t ts) z.within (k t ts n ht z hs))))
+
+  -- ══ Lists and functions ══
 
   pub listed-read : {line : Bytes} {p s a b c r : Point} {T Q : TyAt → Type 0} → Reads line p column (λ (k : ℕ). k ≡ columnAt s) s
       → Reads line s (spelled (ascii "List")) Any a
@@ -110,6 +116,8 @@ module _ (ty : Rule TyAt) where
       (λ z hz. in-turn ty (λ r. sign "]" >> give (fn_at c ps r)) x8
       (λ r hr. in-turn (sign "]") (λ o. give (fn_at c ps r)) x9 (λ o ho. given (fn_at c ps r) x9.within (q c ps r hc hp hr))))))))))
 
+  -- ══ Parameters, types and fields that may be there ══
+
   module _ {line : Bytes} {p : Point} {U : TysAt → Type 0} where
     pub with_params : {r : Point} → false ≡ beginsAt line p 41 → Reads line p (tys ty) U r → Reads line p (paramsThere ty) U r
     with_params e x = if-no-sign ")" (give nilAt) (tys ty) e x
@@ -139,6 +147,8 @@ module _ (ty : Rule TyAt) where
 
     pub without-fields : PointIn line p → false ≡ beginsAt line p 123 → U noneAt → Reads line p (fieldsThere ty) U p
     without-fields i e u = if-no-sign "{" (fieldsIn ty) (give noneAt) e (given noneAt i u)
+
+  -- ══ A structure and a field ══
 
   pub structure-read : {line : Bytes} {p s a b c r : Point} {N : NameAt → Type 0} {U : TysAt → Type 0} {W : FieldsAt → Type 0} {Q : TyAt → Type 0}
       → Reads line p column (λ (k : ℕ). k ≡ columnAt s) s → Reads line s (marked 64) Any a → Reads line a name N b
@@ -181,6 +191,8 @@ module _ (ty : Rule TyAt) where
         → ((i : NameAt) (t : TyAt) → F (i, t) → Reads line b (K i t) Q r) → Reads line p (fieldName >>= λ i. sign ":" >> (ty >>= λ t. K i t)) Q r
     field-then x k = same-rule field-on (in-turn (fieldRule ty) (λ it. K it.0 it.1) x (λ it h. k it.0 it.1 h))
 
+  -- ══ Fields, one after another ══
+
   abbrev moreOf : ℕ → NameAt → TyAt → Rule FieldsAt
   moreOf n i t = moreFields ty n >>= λ fs. give (field_at i t fs)
 
@@ -207,7 +219,7 @@ module _ (ty : Rule TyAt) where
         → ((r : Point) (z : Z) (i : NameAt) (t : TyAt) (fs : FieldsAt) (n : ℕ) → F (i, t) → Reads line b (moreFields ty n) (W r z) r → W r z fs
         → Q r z (field_at i t fs))
         → Onto (moreFields ty) line p P b W
-    fields_go W e x y f = record { within = y.within; so = λ r z k. m.so r z (one_field e x y r (f r z) k) }
+    fields_go W e x y f = record { within = y.within; follows = λ r z k. m.follows r z (one_field e x y r (f r z) k) }
 
     pub fields-less : {a b : Point} {F : NameAt × TyAt → Type 0} → true ≡ beginsAt line q 44 → MarkRead line q 44 a → Reads line a (fieldRule ty) F b
         → left_at line b < left_at line q
@@ -219,7 +231,7 @@ module _ (ty : Rule TyAt) where
     no_field e u (suc n) h = if-no-sign "," (nextField n) (give noneAt) e (given noneAt m.within u)
 
     pub fields-end : (z : Z) → false ≡ beginsAt line q 44 → Q q z noneAt → Whatever (moreFields ty) line p (P q z) q
-    fields-end z e u = m.so q z (no_field e u)
+    fields-end z e u = m.follows q z (no_field e u)
 
   pub fields_read : {line : Bytes} {p f r : Point} {F : NameAt × TyAt → Type 0} {W Q : FieldsAt → Type 0} → Reads line p (fieldRule ty) F f
       → Whatever (moreFields ty) line f W r

@@ -17,6 +17,8 @@ use Rattle.rules.specs.TextReading.{powerOf}
 use Rattle.text_grammar.specs.Powers.{Typed}
 use Rattle.text_grammar.specs.Values.{value_of}
 
+-- ══ Whole numbers in range ══
+
 pub signed-small : (w : ℕ) → w ≤ top → signed w ≡ pos w
 unfolding signed by_sign
 signed-small w h = rw (lt-ltb w 2147483648 (omega arith))
@@ -70,6 +72,8 @@ module _ (n d : ℕ) (h : n ≤ top) (k : 0 < d) (l : d ≤ top) where
       let i : a ≡ frac (pos n) 1 = e ∙ ap (λ (z : ℤ). frac z 1) (signed-small n h) in
       let j : b ≡ frac (pos d) 1 = f ∙ ap (λ (z : ℤ). frac z 1) (signed-small d l) in
       y ∙ ap₂ (quotient bounded) i j ∙ whole-quotient
+
+-- ══ A power's value ══
 
 module _ (m : Bool) (n d : ℕ) where
   size_of : nat_abs (signedBy m n) ≡ n

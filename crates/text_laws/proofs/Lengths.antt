@@ -230,6 +230,8 @@ module _ {pool table : List ℕ} (good : Good pool table) where
       let h = factors-fit p (Meanings.good-dim good p g).each in
       record { short = simp length-append (omega (arith, h.short)); flat = plus (lit (ascii "[") refl) (plus h.flat (lit (ascii "]") refl)) }
 
+  -- ══ A whole type ══
+
   -- two bytes are left for what separates it from the next
   record TyFits (bs : Bytes) (n : ℕ) : Type 0 where
     short : length bs + 2 ≤ n * 173
@@ -334,6 +336,8 @@ module _ {pool table : List ℕ} (good : Good pool table) where
   pub dimension-short : (p : Product ℕ) → goodProduct (numbersOf (table_of pool table)) (is_held (table_of pool table)) 0 p ≡ true
       → length (dimensionText name_of p) ≤ length p * 173 + 2
   dimension-short p g = (dimension-fits p g).short
+
+  -- ══ Lines and sets ══
 
   -- a line without its line feed
   con-fits : (c : Con ℕ) → goodCon (numbersOf (table_of pool table)) (is_held (table_of pool table)) 0 c ≡ true → Fits (conText name_of c) (sizeCon c * 173 - 1)

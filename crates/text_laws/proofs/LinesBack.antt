@@ -125,6 +125,8 @@ module _ {pool table : List ℕ} (good : Good pool table) (bytes : Every IsByte 
   skip-type (struct n as' fs) g c rest = refl
   skip-type (list t) g c rest = refl
 
+  -- ══ A line for each kind of constraint ══
+
   -- a line in which a constraint was found that means this one
   pub record Line (c : Con ℕ) (o : Option ConAt) : Type 0 where
     pub con : ConAt
@@ -195,6 +197,8 @@ module _ {pool table : List ℕ} (good : Good pool table) (bytes : Every IsByte 
   line-asked : (s n t : Bytes) → line (asked s n t) ≡ pass (G.hasField (here 1 (asked s n t))) (λ c. ended >> give (some c))
   unfolding line signsAt constraint skip skipFrom isBlank
   line-asked s n t = refl
+
+  -- ══ All lines ══
 
   pub con-found : (c : Con ℕ) → goodCon (numbersOf (table_of pool table)) (is_held (table_of pool table)) 0 c ≡ true → depthCon c ≤ 64 → LineFound c
   unfolding goodCon goodTy depthCon conText tyText skip skipFrom

@@ -212,6 +212,8 @@ first-bad (l ∷ ls) first start n k c e = go (lineRead l start) refl (λ s. fir
           refuses = g.refuses;
         }
 
+-- ══ Lines that are read, and whatever stands behind them ══
+
 with_none : (x : Sheet) → with [] x ≡ x
 with_none (sheet ds s) = refl
 with_none (refusedIn n k c) = refl

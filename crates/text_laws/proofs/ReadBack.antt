@@ -96,7 +96,7 @@ stored-small n d g =
     )
 
 pub as' : {A : Type 0} {m : Parsed A} {P Q : A → Type 0} {rest : Bytes} → Finds m P rest → ((a : A) → P a → Q a) → Finds m Q rest
-as' h k = record { what = h.what; column = h.column; is = h.is; fits = k h.what h.fits }
+as' h k = record { value = h.value; column = h.column; is = h.is; fits = k h.value h.fits }
 
 -- blanks in front are skipped
 blank-factor : (c : ℕ) (t : Bytes) → factor (here c (32 ∷ t)) ≡ factor (here (suc c) t)

@@ -68,17 +68,17 @@ use Rattle.text_laws.specs.Spelling.{IsByte}
 
 -- a rule finds something of which P holds, and this is left
 pub record Finds {A : Type 0} (m : Parsed A) (P : A → Type 0) (rest : Bytes) : Type 0 where
-  pub what : A
+  pub value : A
   pub column : ℕ
-  pub is : m ≡ read what (here column rest)
-  pub fits : P what
+  pub is : m ≡ read value (here column rest)
+  pub fits : P value
 
 pub found : {A : Type 0} {P : A → Type 0} {a : A} {c : ℕ} {rest : Bytes} → P a → Finds (read a (here c rest)) P rest
-found {A} {P} {a} {c} p = record { what = a; column = c; is = refl; fits = p }
+found {A} {P} {a} {c} p = record { value = a; column = c; is = refl; fits = p }
 
 pub then : {A B : Type 0} {m : Parsed A} (f : A → Rule B) {P : A → Type 0} {Q : B → Type 0} {rest rest' : Bytes} → Finds m P rest
     → ((a : A) (c : ℕ) → P a → Finds (f a (here c rest)) Q rest') → Finds (pass m f) Q rest'
-then {A} {B} {m} f {P} {Q} {rest} {rest'} h k = rw h.is (k h.what h.column h.fits)
+then {A} {B} {m} f {P} {Q} {rest} {rest'} h k = rw h.is (k h.value h.column h.fits)
 
 -- this is read, and what is left
 abbrev pub Comes : {A : Type 0} → Parsed A → A → Bytes → Type 0

@@ -24,19 +24,21 @@ isDimension (listAt c t) = false
 isDimension (struct_at c n as' fs) = false
 isDimension (deepAt c) = false
 
+-- ══ What a rule reads ══
+
 -- whatever a rule reads is a dimension, or none is
 record Shaped (t : Bool) (R : Rule TyAt) : Type 0 where
-  so : (p q : Place) (v : TyAt) → R p ≡ read v q → isDimension v ≡ t
+  shape : (p q : Place) (v : TyAt) → R p ≡ read v q → isDimension v ≡ t
 
 shaped-then : {A : Type 0} {t : Bool} (R : Rule A) (K : A → Rule TyAt) → ((a : A) → Shaped t (K a)) → Shaped t (λ p. pass (R p) K)
-shaped-then {A} {t} R K k = record { so = λ p q v e. go (R p) q v e }
+shaped-then {A} {t} R K k = record { shape = λ p q v e. go (R p) q v e }
   where
     go : (m : Parsed A) (q : Place) (v : TyAt) → pass m K ≡ read v q → isDimension v ≡ t
-    go (read a p) q v e = (k a).so p q v e
+    go (read a p) q v e = (k a).shape p q v e
     go (bad d) q v e = absurd (cc)
 
 shaped-give : {t : Bool} (v : TyAt) → isDimension v ≡ t → Shaped t (give v)
-shaped-give v h = record { so = λ p q w e. let z : v ≡ w = cc in ap isDimension (sym z) ∙ h }
+shaped-give v h = record { shape = λ p q w e. let z : v ≡ w = cc in ap isDimension (sym z) ∙ h }
 
 open-shape : (x : Char) (f : NameAt → Open NameAt) → Shaped false (opened x f)
 open-shape x f =
@@ -98,13 +100,15 @@ module _ (ty : Rule TyAt) where
       (λ n. shaped-then (typesThere ty) (λ ts. fieldsThere ty >>= λ fs. give (struct_at c n ts fs))
       (λ ts. shaped-then (fieldsThere ty) (λ fs. give (struct_at c n ts fs)) (λ fs. shaped-give (struct_at c n ts fs) refl)))))
 
+-- ══ By the first byte ══
+
 -- each rule of a list, by the byte that it is for
 data Each : List (Char × Rule TyAt) → Type 0 where
   none : Each []
   one : {xs : List (Char × Rule TyAt)} (c : Char) (R : Rule TyAt) → Shaped (eqb (code c) 91) R → Each xs → Each ((c, R) ∷ xs)
 
 picked : (b : ℕ) (xs : List (Char × Rule TyAt)) → Each xs → Shaped (eqb b 91) (pick b xs)
-picked b [] none = record { so = λ p q v e. absurd (cc) }
+picked b [] none = record { shape = λ p q v e. absurd (cc) }
 picked b (x ∷ xs) (one c R s f) = go (eqb b (code c)) refl (picked b xs f)
   where
     go : (t : Bool) → eqb b (code c) ≡ t → Shaped (eqb b 91) (pick b xs) → Shaped (eqb b 91) (elim t [ true ↦ R | false ↦ pick b xs ])
@@ -122,7 +126,7 @@ types-shape d b =
 type-shape : (d : ℕ) (p q : Place) (v : TyAt) → chosen (deepAt 0) (types (type d)) p ≡ read v q → isDimension v ≡ begins p 91
 unfolding begins
 type-shape d (here c []) q v e = absurd (cc)
-type-shape d (here c (b ∷ bs)) q v e = (types-shape d b).so (here c (b ∷ bs)) q v e
+type-shape d (here c (b ∷ bs)) q v e = (types-shape d b).shape (here c (b ∷ bs)) q v e
 type-shape d beyond q v e = let z : deepAt 0 ≡ v = cc in sym (ap isDimension z)
 
 pub type-dimension : {P : TyAt → Type 0} {line : Bytes} {q r : Point} (d : ℕ) → Reads line q (type (suc d)) P r

@@ -191,6 +191,8 @@ scalar-reads c (listAt d t) h be x y f = absurd (true≢false (sym h))
 scalar-reads c (struct_at d n as' fs) h be x y f = absurd (true≢false (sym h))
 scalar-reads c (deepAt d) h be x y f = absurd (true≢false (sym h))
 
+-- ══ The three statements that begin with a type ══
+
 module _ {line : Bytes} {p q a e : Point} {x y : Lent} (h : Ready line p x.pool x.table x.stand) (x1 : Reads line p column (λ (k : ℕ). k ≡ columnAt q) q)
     (x2 : Done line (type 64) ty_of (Writes writeTy) q (countedIn 1 (place_of q) x) a y) (x3 : Reads line a column (λ (k : ℕ). k ≡ columnAt e) e) where
   -- a type, and the rule that the byte behind it decides on
@@ -379,6 +381,8 @@ end_read x y = in-turn column (λ c. end_at) x (λ c hc. y)
 end-in : (c : ℕ) (bs : Bytes) (a : Unit {0}) → end_at (here c bs) ≡ read a beyond → ⊥
 end-in c [] a e = cc
 end-in c (b ∷ bs) a e = cc
+
+-- ══ A line: a constraint, a comment, or blanks ══
 
 one_told : (c : Con ℕ) (rs : List Rec) → rs ≡ writeCon c → LineTold 1 (c ∷ []) rs
 unfolding collect

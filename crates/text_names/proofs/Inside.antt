@@ -8,6 +8,8 @@ use Rattle.rules.specs.Grammar.{ifSign, column, columnOf, digits, digitsAt, digi
 use Rattle.text_grammar.specs.Signs.{spelled}
 use Rattle.text_names.proofs.Effects.{Inside}
 
+-- ══ Places that stand in the line ══
+
 -- what is read stands in the line
 record In {A : Type 0} (m : Parsed A) : Type 0 where
   stays : (a : A) → m ≡ read a beyond → ⊥
@@ -46,6 +48,8 @@ spell-in (w ∷ ws) c (b ∷ bs) = go (eqb b w) (spell-in ws (suc c) bs)
     go : (t : Bool) → In (spellFrom ws (suc c) bs) → In {A = Unit {0}} (elim t [ true ↦ spellFrom ws (suc c) bs | false ↦ bad c ])
     go true a = a
     go false a = in-bad c
+
+-- ══ Rules ══
 
 -- a rule behind blanks
 behind-blanks : {A : Type 0} (R : Rule A) → ((c : ℕ) (bs : Bytes) → In (R (here c bs))) → Inside (λ p. R (skip p))

@@ -37,6 +37,8 @@ open_by : (b : Bool) → openRule b ≡ openedBy (mark_of b) (openAs b)
 open_by true = refl
 open_by false = refl
 
+-- ══ An open name ══
+
 -- the name that was told, and nothing else
 record OpenTold (b : Bool) (i : ℕ) (o : Open ℕ) (rs : List Rec) : Type 0 where
   is : o ≡ openAs b i
@@ -98,6 +100,8 @@ module _ {line : Bytes} {p a q : Point} {pool table pool' table' dst dst' : List
       → Done line (openRule b) ty_of (Writes writeTy) p (lent pool table dst s) q (lent pool' table' dst' s')
   open_done {at} {m} {s₁} {v} x e f h y d j g =
       read-open x (rw h at y) (rw (f ∙ ap (λ (n : ℕ). countOf 1 n s) e) at d) (g ∙ ap (λ (w : View). headPut w s s' dst) j)
+
+-- ══ A basic type ══
 
 basic-by : (b : Basic) → basicRule b ≡ keywordBy (word_of b) (basicOf b)
 basic-by Boolean = refl

@@ -65,6 +65,8 @@ halted-if true r at s h = h
 halted-if false r at (Ok tally) h = λ i j e g. h tally.names tally.records e refl
 halted-if false r at (Err stop) h = λ i j e g. cc
 
+-- ══ Tests between steps ══
+
 -- nothing is written
 abbrev pub Nothing : {B : Type 0} → B → List Rec → Type 0
 Nothing b rs = rs ≡ []
@@ -121,6 +123,8 @@ name-column {P} {line} {q} {r} x = record { within = x.within; onward = x.onward
     go (point.Bad k) (point.At j) e n = absurd (cc)
     go (point.Bad k) point.Deep e n = absurd (cc)
     go q (point.Bad j) e n = absurd n
+
+-- ══ One field ══
 
 typed-behind : (x : ℕ) (u : Ty ℕ) (rs : List Rec) → rs ≡ writeTy u → recOf (view.Field x) (suc (length rs)) ∷ rs ≡ fieldRecs (x, u)
 typed-behind x u rs e = ap₂ (λ (n : ℕ) (l : List Rec). rec (head 9 (suc n)) x 0 0 ∷ l) (ap length e ∙ size-ty u) e
@@ -197,6 +201,8 @@ module _ (ty : Rule TyAt) (b : code.Option ℕ) {line : Bytes} {x x₁ y : Lent}
       field-done ty b h x1 x2 ris x3
       (subst (λ (u : Stand). Done line ty ty_of (Writes writeTy) c (lent x₁.pool x₁.table x₁.dst u) r y) (k ∙ ap₂ (countOf 1) e o) x4)
       (λ h. refl) d (g ∙ ap (λ (u : Stand). headPut (view.Field v) u y.stand y.dst) o)
+
+-- ══ Fields, one after another ══
 
 pub fields-none : {n : ℕ} {x : Lent} (y : Option ℕ) → n ≤ 4096 → Effect (fields_of noneAt y) (FieldsTold n n) x x
 unfolding ty_of tys_of fields_of writeTy writeTys writeFields countFields

@@ -14,6 +14,8 @@ use Rattle.text_types.proofs.Rows.{tys-start, tys-turn, tys-fall, tys-done, fiel
 use Rattle.text_types.proofs.Rows.{some-types, no-types, some-fields, no_fields, done-by, type-zero, type-some}
 use Rattle.text_types.proofs.inner.nested.+types.Goals as goal
 
+-- ══ enter_arguments ══
+
 pub enter_arguments-enter_types-ts-requires : goal.enter_arguments-enter_types-ts-requires
 enter_arguments-enter_types-ts-requires t c =
     (omega (arith, c.decreases), ready_on (inside-spelled _) c.mark-a.ensures.reads c.requires)
@@ -26,6 +28,8 @@ pub enter_arguments-returns-clause-done : goal.enter_arguments-returns-clause-do
 enter_arguments-returns-clause-done t c =
     some-types (type _) (sym c.if-not-next_is.false ∙ c.next_is.ensures) c.mark-a.ensures.reads
     c.enter_types-ts.ensures.done c.mark-at.ensures.reads
+
+-- ══ enter_field ══
 
 pub enter_field-read_named-x-requires : goal.enter_field-read_named-x-requires
 enter_field-read_named-x-requires t c =
@@ -58,6 +62,8 @@ enter_field-returns-clause-done t c =
     c.place_of-at.ensures c.rises-risen.ensures c.pass_if-tested.ensures c.count-now.ensures
     c.mark-c.ensures.reads c.enter_type-end.ensures.done _ c.put_head.ensures
 
+-- ══ enter_fields ══
+
 pub enter_fields-enter_field-first-requires : goal.enter_fields-enter_field-first-requires
 enter_fields-enter_field-first-requires t c =
     (omega (arith, c.decreases), c.requires)
@@ -86,6 +92,8 @@ enter_fields-loop-a-preserved t c =
 pub enter_fields-returns-clause-done : goal.enter_fields-returns-clause-done
 enter_fields-returns-clause-done t c =
     fields-done (type _) c.enter_field-first.ensures.done c.loop-a.invariant.0 (sym c.loop-a-test.false ∙ c.next_is.ensures)
+
+-- ══ enter_function ══
 
 pub enter_function-count-now-requires : goal.enter_function-count-now-requires
 enter_function-count-now-requires t c =
@@ -118,6 +126,8 @@ enter_function-returns-clause-done t c =
     c.mark-f.ensures.reads c.sign-g.ensures c.enter_type-t.ensures.done c.mark-at.ensures.reads _
     c.put_head.ensures
 
+-- ══ enter_list ══
+
 pub enter_list-count-now-requires : goal.enter_list-count-now-requires
 enter_list-count-now-requires t c =
     record { small = omega arith; few = ready-few c.requires }
@@ -139,6 +149,8 @@ enter_list-returns-clause-done t c =
     (from-counted c.next_sign-q.result c.args.from.stand c.place_of.ensures c.count-now.ensures c.enter_type-t.ensures.done)
     c.mark-at.ensures.reads _ c.put_head.ensures
 
+-- ══ enter_members ══
+
 pub enter_members-enter_fields-fs-requires : goal.enter_members-enter_fields-fs-requires
 enter_members-enter_fields-fs-requires t c =
     (omega (arith, c.decreases), ready_on (inside-spelled _) c.mark-a.ensures.reads c.requires)
@@ -152,6 +164,8 @@ enter_members-returns-clause-done t c =
     some-fields (type _) (sym c.if-not-next_is.false ∙ c.next_is.ensures) c.mark-a.ensures.reads
     c.enter_fields-fs.ensures.done c.mark-at.ensures.reads
 
+-- ══ enter_params ══
+
 pub enter_params-returns-then-next_is-clause-done : goal.enter_params-returns-then-next_is-clause-done
 enter_params-returns-then-next_is-clause-done t c =
     no-params (type _) c.requires (sym c.if-next_is.true ∙ c.next_is.ensures)
@@ -163,6 +177,8 @@ enter_params-enter_types-requires t c =
 pub enter_params-returns-clause-done : goal.enter_params-returns-clause-done
 enter_params-returns-clause-done t c =
     some-params (type _) (sym c.if-next_is.false ∙ c.next_is.ensures) c.enter_types.ensures.done
+
+-- ══ enter_structure ══
 
 pub enter_structure-count-now-requires : goal.enter_structure-count-now-requires
 enter_structure-count-now-requires t c =
@@ -191,6 +207,8 @@ enter_structure-returns-clause-done t c =
     structure-done (type _) c.requires c.next_sign-q.ensures c.mark-a.ensures.reads
     (from-counted c.next_sign-q.result c.args.from.stand c.place_of.ensures c.count-now.ensures (c.read_named-x.ensures _))
     c.enter_arguments-ts.ensures.done c.enter_members-fs.ensures.done _ c.put_head.ensures
+
+-- ══ enter_type ══
 
 pub enter_type-returns-then-d-eq0-clause-done : goal.enter_type-returns-then-d-eq0-clause-done
 enter_type-returns-then-d-eq0-clause-done t c =
@@ -233,6 +251,8 @@ enter_type-returns-in_default-clause-done t c =
     let b = c.byte_at.ensures in
     type-some _ c.if-d-eq0.false c.next_sign-q.ensures
     (c.enter_leaf.ensures _ (λ h. search (rules, b ∙ h)) (λ h. search (rules, b ∙ h)) (λ h. search (rules, b ∙ h)))
+
+-- ══ enter_types ══
 
 pub enter_types-enter_type-first-requires : goal.enter_types-enter_type-first-requires
 enter_types-enter_type-first-requires t c =
