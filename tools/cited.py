@@ -128,21 +128,20 @@ def beside(modules):
 
 
 def reached(modules, starts):
-    """All that these come down to, each with the place that named it first."""
-    by, left = {}, list(starts)
-    while left:
-        here, namer = left.pop()
+    """All that these come down to, each with what names it on the shortest way there."""
+    by, ahead = {}, list(starts)
+    for here, namer in ahead:
         if here not in by:
             by[here] = namer
             place, name = here
             module = modules[place]
-            left += [(there, here) for there in cited(modules, place, "\n".join(module.declared[name]))]
-            left += [((place, other), here) for other in module.together.get(name, [])]
+            ahead += [(there, here) for there in cited(modules, place, "\n".join(module.declared[name]))]
+            ahead += [((place, other), here) for other in module.together.get(name, [])]
     return by
 
 
 def out_of_place(modules, by):
-    """What stands in proofs/ and a contract comes down to: the way there is told where it leaves src/ and specs/."""
+    """What stands in proofs/ and a contract comes down to, with the file of the clause and the definitions on the way."""
     for (place, name), namer in sorted(by.items(), key=lambda it: it[0]):
         module = modules[place]
         if module.part == "proofs":

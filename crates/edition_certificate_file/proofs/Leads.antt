@@ -28,7 +28,7 @@ use Rattle.std.proofs.Common.{
   Some,
 }
 use Rattle.std.specs.List.{list_all}
-use Rattle.std.proofs.lemmas.Bool.{and_parts, not-true}
+use Rattle.std.proofs.lemmas.Bool.{and_parts, not-true, or_parts}
 use Rattle.std.specs.Cmp.Lexicographic.{same_text}
 use Rattle.std.proofs.lemmas.Cmp.{nat_list_eq_equiv}
 use lib.Pointwise.{pointwise}
@@ -57,7 +57,7 @@ use Rattle.edition_certificate_file.specs.Reading.{
   isKept,
 }
 use Rattle.edition_certificate_file.specs.Writable.{beginsBlank, nameOf}
-use Rattle.edition_certificate_file.proofs.Splitting.{neither, asLine}
+use Rattle.edition_certificate_file.proofs.Splitting.{asLine}
 use Rattle.edition_certificate_file.proofs.Indented.{ownLines}
 use Rattle.edition_certificate_file.proofs.OneLine.{none-in-both, no-capital}
 use Rattle.edition_certificate_file.proofs.SheetLines.{Sheet, sheetLines}
@@ -158,7 +158,7 @@ none-of : (k : Kept) (before ks : List Kept) → Every (λ j. isKept j.name befo
 unfolding any
 none-of k before [] h e = tt
 none-of k before (j ∷ ks) h e =
-    let both = neither (sameBytes k.name j.name) _ e in
+    let both = or_parts (sameBytes k.name j.name) _ e in
     (none-in-both (λ i. pointwise eqb i.name j.name) before (k ∷ []) h.0 (rw (apart k.name j.name both.0) refl), none-of k before ks h.1 both.1)
 
 pub fresh : (before ks : List Kept) → Every (λ j. isKept j.name before ≡ false) ks → distinct (map nameOf ks) ≡ true → Fresh before ks

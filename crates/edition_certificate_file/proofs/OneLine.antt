@@ -3,6 +3,7 @@ use Rattle.std.proofs.Common.{◌≡◌, refl, ap, ◌∙◌, ◌++◌, ◌+◌,
 use Rattle.std.specs.List.{list_any}
 use Rattle.std.specs.Char.{is_ascii_uppercase}
 use Rattle.std.proofs.lemmas.List.Folds.{list_any-append}
+use Rattle.std.proofs.lemmas.Bool.{or_parts}
 use Rattle.hex.specs.Hex.{encode_lower, encode_with, lower_digits}
 use Rattle.rules.specs.Base.{collect}
 use Rattle.rules.specs.Names.{Bytes}
@@ -10,7 +11,7 @@ use Rattle.rules.specs.TextWriting.{decimal}
 use Rattle.edition_certificate_file.specs.Files.{isEscaped, writtenWhere, writtenByte, writtenName}
 use Rattle.edition_certificate_file.specs.Reading.{lineFeed}
 use Rattle.edition_certificate_file.specs.Writable.{onOneLine}
-use Rattle.edition_certificate_file.proofs.Splitting.{Flat, neither}
+use Rattle.edition_certificate_file.proofs.Splitting.{Flat}
 
 module _ {X : Type 0} (p : X → Bool) where
   -- of two lists that each have none that passes
@@ -20,8 +21,8 @@ module _ {X : Type 0} (p : X → Bool) where
 module _ (p : ℕ → Bool) (past : p 0 ≡ false) (digits : List ℕ) (none : list_any p digits ≡ false) where
   in-table : (ds : List ℕ) (i : ℕ) → list_any p ds ≡ false → p (slice_index ds i) ≡ false
   in-table [] i h = past
-  in-table (d ∷ ds) zero h = (neither (p d) (list_any p ds) h).0
-  in-table (d ∷ ds) (suc i) h = in-table ds i (neither (p d) (list_any p ds) h).1
+  in-table (d ∷ ds) zero h = (or_parts (p d) (list_any p ds) h).0
+  in-table (d ∷ ds) (suc i) h = in-table ds i (or_parts (p d) (list_any p ds) h).1
 
   -- what is written with digits of a table has nothing that the table hasn't
   in-digits : (bs : List ℕ) → list_any p (encode_with digits bs) ≡ false

@@ -36,7 +36,7 @@ use Rattle.std.specs.Prelude.{option_map, IfOk, Vec}
 use Rattle.std.specs.declared.alloc.Global.{Global}
 use Rattle.std.specs.List.{list_any, list_all, slice_split, onto_first, starts_with}
 use Rattle.std.specs.Char.{is_ascii_uppercase}
-use Rattle.std.proofs.lemmas.Bool.{and_parts, not-true}
+use Rattle.std.proofs.lemmas.Bool.{and_parts, not-true, or_parts}
 use Rattle.std.proofs.lemmas.List.Folds.{list_all-append}
 use Rattle.std.proofs.lemmas.List.{map-append}
 use Rattle.std.proofs.lemmas.List.Splits.{slice_split-cons_yes, slice_split-cons_no}
@@ -82,7 +82,7 @@ use Rattle.edition_certificate_file.specs.Reading.{
 }
 use Rattle.edition_certificate_file.specs.Theorems.{Written}
 use Rattle.edition_certificate_file.specs.Writable.{onOneLine, isDigest, linesIn, beginsBlank, nameOf, writable, allWritable}
-use Rattle.edition_certificate_file.proofs.Splitting.{Flat, neither, asLine}
+use Rattle.edition_certificate_file.proofs.Splitting.{Flat, asLine}
 use Rattle.edition_certificate_file.proofs.Indented.{more-indented}
 use Rattle.edition_certificate_file.proofs.SheetLines.{is-digest, sheet}
 use Rattle.edition_certificate_file.proofs.Leads.{same-refl}
@@ -120,7 +120,7 @@ none-apart = refl
 pub later : {X : Type 0} (p : X → Bool) (n : ℕ) (xs : List X) → list_any p xs ≡ false → list_any p (drop n xs) ≡ false
 later p zero xs h = h
 later p (suc n) [] h = h
-later p (suc n) (x ∷ xs) h = later p n xs (neither (p x) (list_any p xs) h).1
+later p (suc n) (x ∷ xs) h = later p n xs (or_parts (p x) (list_any p xs) h).1
 
 between-good : (ks : List Kept) (line : Bytes) → Flat line → Sound ks → OnSome (lineRead (ks, between) line)
 unfolding lineRead betweenRead
@@ -174,7 +174,7 @@ unfolding distinct any
 one-more [] k d h = refl
 one-more (j ∷ ks) k d h =
     let apart = and_parts (not (any (sameBytes j.name) (map nameOf ks))) _ d in
-    let new = neither (pointwise eqb j.name k.name) _ h in
+    let new = or_parts (pointwise eqb j.name k.name) _ h in
     rw (any_append (sameBytes j.name) (map nameOf ks) (k.name ∷ []), not-true _ apart.0, other-name j.name k.name new.0) (one-more ks k apart.1 new.1)
 
 sound-more : (ks : List Kept) (k : Kept) → Sound ks → New ks k.name → writable k ≡ true → Sound (ks ++ k ∷ [])

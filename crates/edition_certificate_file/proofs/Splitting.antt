@@ -1,15 +1,11 @@
 -- Lines of a text: where they end, what they have, and how they make it up.
-use Rattle.std.proofs.Common.{◌≡◌, refl, sym, ap, ◌∙◌, ◌++◌, ◌<◌, ◌||◌, Bool, true, false, List, [], ◌∷◌, length, arith, append-nil, append_assoc}
+use Rattle.std.proofs.Common.{◌≡◌, refl, sym, ap, ◌∙◌, ◌++◌, ◌<◌, Bool, true, false, List, [], ◌∷◌, length, arith, append-nil, append_assoc}
 use Rattle.std.specs.List.{list_any, slice_split, onto_first, join_with_byte}
 use Rattle.std.proofs.lemmas.List.Splits.{slice_split-cons_yes, slice_split-cons_no, length-slice_split, join_with_byte-slice_split}
+use Rattle.std.proofs.lemmas.Bool.{or_parts}
 use Rattle.rules.specs.Base.{collect}
 use Rattle.rules.specs.Names.{Bytes}
 use Rattle.edition_certificate_file.specs.Reading.{lineFeed}
-
--- a test that neither passes
-pub neither : (a b : Bool) → (a || b) ≡ false → (a ≡ false) × (b ≡ false)
-neither true b e = cc e
-neither false b e = (refl, e)
 
 module _ {X : Type 0} (p : X → Bool) where
   onto-front : (x : X) (parts more : List (List X)) → 0 < length parts → onto_first x (parts ++ more) ≡ onto_first x parts ++ more
@@ -36,7 +32,7 @@ module _ {X : Type 0} (p : X → Bool) where
   pub one-part : (xs : List X) → list_any p xs ≡ false → slice_split p xs ≡ xs ∷ []
   one-part [] h = refl
   one-part (x ∷ xs) h =
-      let parts = neither (p x) (list_any p xs) h in
+      let parts = or_parts (p x) (list_any p xs) h in
       slice_split-cons_no p x xs parts.0 ∙ ap (onto_first x) (one-part xs parts.1)
 
 -- no line feed stands in it

@@ -39,6 +39,8 @@ use Rattle.edition_certificate_file.specs.declared.Stage.{Stage}
 use Rattle.edition_certificate_file.specs.declared.Stage.TheVariants.{Between, Named, Inside, Ended}
 use Rattle.edition_certificate_file.specs.Files.{Kept, keptOf, firstLine, lastLine, keptsText}
 
+-- ══ Where a line stands ══
+
 -- where the next line stands: between sheets; behind a sheet's name; behind its digest, with what is kept so far; behind the last line
 pub data Place : Type 0 where
   between ended : Place
@@ -74,6 +76,8 @@ digestIn line =
 
 abbrev pub digestRead : Bytes → Bytes → Option Place
 digestRead name line = option_map (λ digest. inside (record { name = name; digest = digest; lines = [] })) (digestIn line)
+
+-- ══ Lines, one after another ══
 
 -- the sheets that were read to their end, and where the next line stands
 abbrev pub Reached : Type 0
@@ -111,6 +115,8 @@ allRead (ks, ended) = Ok ks
 unfoldable pub linesRead : ℕ → Reached → List Bytes → Result (List Kept) Fault
 linesRead n r [] = allRead r
 linesRead n r (line ∷ lines) = orLine n (lineRead r line) (λ next. linesRead (n + 1) next lines)
+
+-- ══ The whole text ══
 
 abbrev pub endsLine : Bytes → Bool
 endsLine text = ends_with eqb text (ascii "\n")

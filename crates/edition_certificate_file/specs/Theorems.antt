@@ -13,7 +13,7 @@ pub record WrittenIsRead : Type 0 where
   -- what is written of writable sheets is read to the same sheets
   pub back : (ks : List Kept) → allWritable ks ≡ true → certificateRead (keptsText ks) ≡ Ok ks
   -- so a text is that of one list of sheets at the most
-  pub one : (ks js : List Kept) → allWritable ks ≡ true → allWritable js ≡ true → keptsText ks ≡ keptsText js → ks ≡ js
+  pub one-list : (ks js : List Kept) → allWritable ks ≡ true → allWritable js ≡ true → keptsText ks ≡ keptsText js → ks ≡ js
   -- a name as it is written never ends its line, whatever it was made of
   pub names : (name : Bytes) → onOneLine (writtenName name) ≡ true
   -- lines that were put behind two blanks and before a line feed may stand there

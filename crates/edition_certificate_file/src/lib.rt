@@ -339,7 +339,7 @@ fn sheets(alloc: Global, text: &[u8]) -> Result<Result<Vec<Entry>, Fault>, Alloc
 /// Reads a certificate: its sheets, or why it isn't one. What is read is written again and compared, so that each byte of the text is accounted for.
 #[tactic(auto, unfolding(crate::specs::Reading::certificateRead))]
 pub fn read_certificate(alloc: Global, text: &[u8]) -> Result<Result<Vec<Entry>, Fault>, AllocError>
-    ensures is { IfOk result (λ r. keptIn r ≡ certificateRead text.now) }
+    ensures answer { IfOk result (λ r. keptIn r ≡ certificateRead text.now) }
     ensures written { IfOk result (IsReadFrom text.now) }
 {
     let entries = match sheets(alloc, text)? {

@@ -44,7 +44,7 @@ pub fn written_and_read(
     alloc: Global,
     entries: &[Entry],
 ) -> Result<Result<Vec<Entry>, Fault>, AllocError>
-    ensures is { IfOk result (λ r. keptIn r ≡ certificateRead (certificateText entries.now)) }
+    ensures answer { IfOk result (λ r. keptIn r ≡ certificateRead (certificateText entries.now)) }
     ensures back { IfOk result (λ r. allWritable (map keptOf entries.now) ≡ true → keptIn r ≡ Ok (map keptOf entries.now)) }
     ensures only { IfOk result (λ r. keptIn r ≡ Ok (map keptOf entries.now) → allWritable (map keptOf entries.now) ≡ true) }
 {

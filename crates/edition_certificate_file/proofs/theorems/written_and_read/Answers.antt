@@ -7,4 +7,4 @@ pub returns-clause-back : goal.returns-clause-back
 returns-clause-back c = search (rules, read-back)
 
 pub returns-clause-only : goal.returns-clause-only
-returns-clause-only c = read-only-writable _ _ _ c.read_certificate.ensures.is
+returns-clause-only c = read-only-writable _ _ _ c.read_certificate.ensures.answer

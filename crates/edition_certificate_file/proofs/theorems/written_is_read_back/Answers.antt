@@ -4,4 +4,4 @@ use Rattle.edition_certificate_file.proofs.ReadBack.{read-back, one-list, named-
 use Rattle.edition_certificate_file.proofs.theorems.written_is_read_back.Goals as goal
 
 pub returns : goal.returns
-returns c = record { back = read-back; one = one-list; names = written-on-line; lines = lines-indented; twice = named-twice }
+returns c = record { back = read-back; one-list = one-list; names = written-on-line; lines = lines-indented; twice = named-twice }
