@@ -79,6 +79,8 @@ module _ {pool table : List ℕ} (g : Good pool table) where
       one true = sym (same-number i a h)
       one false = refl
 
+  -- ══ Names that stand in words ══
+
   -- a name that stands in words that are read is one of the table's
   among-get : (m : Bytes) (ns : List Bytes) (a : ℕ) → a < length ns → sameBytes m (get_or ns a []) ≡ true → Among m ns ≡ true
   unfolding any
@@ -111,6 +113,8 @@ module _ {pool table : List ℕ} (g : Good pool table) where
           → (stands (readBack (table_of pool table) ws) m ≡ true → Among m names ≡ true) → Among m names ≡ true
       go true e k = either (isIt m (nameNo (table_of pool table) a)) (stands-named m a) e k
       go false e k = k e
+
+  -- ══ The names that are kept ══
 
   -- the names that are kept are those that stand in the sets
   pub kept-stands : (ws : List ℕ) (m : Bytes) → Among m (keptFrom (keeps (table_of pool table).count ws) 0 names) ≡ stands (readBack (table_of pool table) ws) m

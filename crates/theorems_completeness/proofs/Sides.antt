@@ -112,6 +112,8 @@ module _ {N : Type 0} where
   dimensional-as (hasField n s t) = refl
 
 module _ {N : Type 0} (ν : Names N) (held : N → Bool) (w : Bool) where
+  -- ══ Well formed sides and constraints ══
+
   -- a well formed side
   pub data Sided (t : Ty N) : Type 0 where
     a-product : (p : Product N) → Good ν held p → t ≡ dim p → Sided t

@@ -46,6 +46,8 @@ use Rattle.laws.proofs.Sorted.{sorted}
 use Rattle.theorems_ending.proofs.Products.{Atoms, Neat}
 
 module _ {N : Type 0} where
+  -- ══ Types whose open names have a property ══
+
   -- P of the open name that stands in an atom, if one does
   abbrev pub Named : (Open N → Type 0) → Atom N → Type 0
   Named P (free o) = P o
@@ -72,6 +74,8 @@ module _ {N : Type 0} (ν : Names N) (P : Open N → Type 0) where
 -- an open name to the power 1
 pub just-neat : {N : Type 0} {ν : Names N} {P : Open N → Type 0} (o : Open N) → P o → Neat ν (Named P) (just o)
 just-neat o h = record { sorted = (tt, tt); atoms = (h, tt) }
+
+-- ══ From one property to another ══
 
 -- from P and Q to R
 module _ {N : Type 0} (ν : Names N) {P Q R : Open N → Type 0} (h : (o : Open N) → P o → Q o → R o) where

@@ -145,6 +145,8 @@ module _ {N : Type 0} (ν : Names N) where
   unfolding issued
   joined-asked v l r o = two-asked v l r o
 
+  -- ══ Every step, and so the whole line ══
+
   -- what a step issues, if it finds its operands
   abbrev StepAsked : N → Option (Deed N N × List N) → Type 0
   StepAsked v none = Unit {0}

@@ -60,6 +60,8 @@ lents t order ps (x ∷ xs) (y ∷ ys) h k m =
 pub few : (a b : ℕ) → a * 4 ≤ b * 4 → a ≤ b
 few a b h = omega arith
 
+-- ══ The call with either list ══
+
 module _ (pool table steps types lines result work : List ℕ) (ss : List (LineStep ℕ)) (read : lineGiven (table_of pool table) steps types lines ≡ got ss) where
   abbrev t : Table
   t = table_of pool table

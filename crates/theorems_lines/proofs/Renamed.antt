@@ -87,6 +87,8 @@ use Rattle.rules.specs.Lines.{
 }
 
 module _ {N M : Type 0} (f : N → M) where
+  -- ══ Steps, and the stack ══
+
   abbrev pub map_step : LineStep N → LineStep M
   map_step (constant t) = constant (mapTy f t)
   map_step (reference t) = reference (mapTy f t)
@@ -210,6 +212,8 @@ module _ {N M : Type 0} (ν : Names N) (μ : Names M) (f : N → M) (keeps : Kee
       go (some d) e more = rw (takes-map f s st ∙ ap (mapOption (λ d. (mapDeed f d.0, map f d.1))) e, e, constraints)
           (ap₂ (λ (xs ys : List (Con M)). xs ++ ys) (issued-map v d.0) (more d.1)
           ∙ sym (map-append (mapCon f) (issued ν v d.0) (constraints ν vs (v ∷ d.1) ss)))
+
+  -- ══ The set, solved and judged ══
 
   -- bindings and bounds with other names in them
   abbrev mapFound : List (Binding N) × List N → List (Binding M) × List M

@@ -64,6 +64,8 @@ use Rattle.laws.proofs.Occurs.{each_opens, opens-each, merge_on, inverse-on, fie
 use Rattle.laws.proofs.Untouched.{Unbound, ty_same, factors-same}
 
 module _ {N : Type 0} where
+  -- ══ Closed types and constraints ══
+
   -- no open name
   abbrev pub Never : Open N → Type 0
   Never o = ⊥
@@ -119,6 +121,8 @@ module _ {N : Type 0} (ν : Names N) where
   unfolding opens
   quotient-shut d e q h k i = rw i (each_opens Never (mergeE ν d (inverse e))
       (merge_on Never ν d (inverse e) (opens-each Never d h) (inverse-on Never ν e (opens-each Never e k))))
+
+  -- ══ A rule ══
 
   -- what a rule does with a closed constraint
   pub shut-rule : (c : Con N) (s : Step N) → Rule ν bounded c s → ShutCon c → After (All ShutCon) (λ x t. ⊥) s

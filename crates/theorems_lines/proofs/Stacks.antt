@@ -149,6 +149,8 @@ module _ {N : Type 0} (ν : Names N) (held : N → Bool) (ord : Ordered ν held)
     of-own = facts _ (Memᴰ.tail (Memᴰ.tail (Memᴰ.tail in_head)));
   }
 
+  -- ══ Two operands ══
+
   -- both operands are dimensions
   module _ (l r : N) (s t : Ty N) (m : Match l s) (n : Match r t) where
     abbrev pub Bounds : Type 0
@@ -210,6 +212,8 @@ module _ {N : Type 0} (ν : Names N) (held : N → Bool) (ord : Ordered ν held)
           leaves = rw (is-boolean ν held ord bs ns good c u k h.0.true-under, mean-same ν held ord bs ns good l r s t m n h.1.0.true-under);
           matches = of-same ν held ord bs ns good v l s m h.1.1.0.true-under;
         }
+
+  -- ══ Any step ══
 
   -- a step finds its operands, and what it leaves matches its variable
   step : (s : LineStep N) (v : N) (st : List N) (ts : List (Ty N)) → Stacked st ts → operands s ≤ length st → Ready s → Took s v st ts

@@ -171,6 +171,8 @@ module _ {N : Type 0} (ν : Names N) where
   unfolding trySatisfy firstRules
   first_done s t e = rw (is-yes (ty-dec ν s t) e)
 
+  -- ══ What a rule puts in its place ══
+
   -- put in its place: closed constraints that are true
   pub record Parts (m : Got (Step N)) : Type 0 where
     pub new : List (Con N)

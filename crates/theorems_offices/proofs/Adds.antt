@@ -37,6 +37,8 @@ room pool table buffer n c r e =
     omega (arith, z, w)
 
 module _ {pool table pool' table' : List ℕ} (good : Good pool table) (good' : Good pool' table') where
+  -- ══ The call over two tables ══
+
   -- the two tables, and the names of their numbers
   abbrev T₁ : Table
   T₁ = table_of pool table

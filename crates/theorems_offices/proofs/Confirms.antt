@@ -56,7 +56,8 @@ module _ {pool table pool' table' : List ℕ} (good : Good pool table) (good' : 
   confirmed-set : (ws ws' : List ℕ) → Alike good good' ws ws' → Both (mapAnswer ν₁) (mapAnswer ν₂) (confirmedSet T₁ ws) (confirmedSet T₂ ws')
   unfolding confirmedSet
   confirmed-set ws ws' e =
-      onward _ _ (solved-set good good' ws ws' e) (λ a a' j. onward _ _ (constraints-given good good' ws ws' e) (λ cs cs' i. both (confirmed-alike cs cs' a a' i j)))
+      onward _ _ (solved-set good good' ws ws' e) (λ a a' j.
+      onward _ _ (constraints-given good good' ws ws' e) (λ cs cs' i. both (confirmed-alike cs cs' a a' i j)))
 
   pub confirm-alike : (ws ws' result result' work work' : List ℕ) → Alike good good' ws ws' → LentAlike result result' work work'
       → SolvedAlike T₁ T₂ (confirmCall pool table ws result work) (confirmCall pool' table' ws' result' work')

@@ -50,6 +50,8 @@ module _ {pool table pool' table' : List ℕ} (good : Good pool table) (good' : 
   abbrev ν₂ : ℕ → Name
   ν₂ = nameNo T₂
 
+  -- ══ A set, eliminated ══
+
   checked-alike : (ws ws' : List ℕ) → Alike good good' ws ws' → Both (map (mapCon ν₁)) (map (mapCon ν₂)) (setChecked T₁ ws) (setChecked T₂ ws')
   unfolding setChecked
   checked-alike ws ws' e =
@@ -78,6 +80,8 @@ module _ {pool table pool' table' : List ℕ} (good : Good pool table) (good' : 
       onward _ _ (checked-alike ws ws' e) (λ cs cs' i.
       onward _ _ (fitting-alike cs cs' i) (λ ps ps' j.
       through (eliminated-map _ byBytes ν₁ (keeps good) ps) (eliminated-map _ byBytes ν₂ (keeps good') ps') (ap (eliminated byBytes) j)))
+
+  -- ══ The call ══
 
   record Same (m m' : Got (Settled ℕ)) : Type 0 where
     answer : eliminatedOf m ≡ eliminatedOf m'

@@ -33,7 +33,22 @@ use Rattle.rules.specs.Calls.{
   opensBinding,
   opensScheme,
 }
-use Rattle.rules.specs.Offices.{Name, stray, byBytes, nameNo, readBack, ReadAlike, NumbersAlike, LentAlike, mapOpen, mapTy, mapCon, mapGot, mapBinding, mapScheme}
+use Rattle.rules.specs.Offices.{
+  Name,
+  stray,
+  byBytes,
+  nameNo,
+  readBack,
+  ReadAlike,
+  NumbersAlike,
+  LentAlike,
+  mapOpen,
+  mapTy,
+  mapCon,
+  mapGot,
+  mapBinding,
+  mapScheme,
+}
 use Rattle.laws.proofs.Checks.{need-passed, first-passed, next-passed}
 use Rattle.laws.specs.Lists.{and_left, and_right}
 use Rattle.laws.proofs.Lists.{bound-step}

@@ -37,6 +37,8 @@ use Rattle.theorems_offices.proofs.Reading.{seen}
 use Rattle.theorems_offices.proofs.Writing.{words-alike}
 use Rattle.theorems_offices.proofs.Results.{joined-alike, rest-alike}
 
+-- ══ Lists ══
+
 module _ (f f' : ℕ → Name) where
   at-alike : (ns ns' : List ℕ) (a : ℕ) → map f ns ≡ map f' ns' → a < length ns → f (get_or ns a 0) ≡ f' (get_or ns' a 0)
   at-alike [] ns' a e h = absurd (omega arith)

@@ -13,6 +13,8 @@ use Rattle.rules.specs.Offices.{Keeps, mapOpen, mapAtom, mapFactor, mapTy, mapOp
 use Rattle.theorems_offices.proofs.Options.{only-map}
 use Rattle.theorems_offices.proofs.Over.{Over, next, gives, same_over, within-over}
 
+-- ══ Where no names are compared ══
+
 module _ {N M : Type 0} (f : N → M) where
   pub put_map : (a : Atom N) (e : Exp) (p : Product N) → put (mapAtom f a) e (map (mapFactor f) p) ≡ map (mapFactor f) (put a e p)
   put_map a e p = go (isZero e) refl
@@ -45,6 +47,8 @@ module _ {N M : Type 0} (f : N → M) where
   single-map (free (quant i) ↑ e ∷ []) = only-map (mapOpen f) (is_yes (Exp-dec e one)) (quant i)
   single-map (free (par x) ↑ e ∷ []) = refl
   single-map (base n ↑ e ∷ []) = refl
+
+-- ══ Where names are compared ══
 
 module _ {N M : Type 0} (ν : Names N) (μ : Names M) (f : N → M) (keeps : Keeps ν μ f) where
   pub order_open : (a b : Open N) → orderOpen μ (mapOpen f a) (mapOpen f b) ≡ orderOpen ν a b

@@ -29,6 +29,8 @@ use Rattle.theorems_offices.proofs.Reading.{
   plain,
 }
 
+-- ══ Reading a scheme, in steps ══
+
 -- a scheme's first record and its type
 abbrev formTable : ℕ → List (ℕ × Reader (Scheme ℕ))
 formTable n = (0, Reading.◌>>=◌ (readTy 64) (λ t. give (scheme n t []))) ∷ (1, unused (n ∷ []) (Reading.◌>>=◌ (readTy 64) (λ t. give (concrete t)))) ∷ []
@@ -48,6 +50,8 @@ ended r = and_then (read_all readBound (length r.1) r.1) (λ bs. ends r.0 bs)
 -- a scheme of m records that says to be n long
 abbrev whole : ℕ → ℕ → Option (Scheme ℕ × List Rec) → Option (Scheme ℕ)
 whole n m o = ifSo (eqb n m) (and_then o ended)
+
+-- ══ The steps, over two tables ══
 
 module _ (t t' : Table) where
   form-rows : (b n n' : ℕ) → n ≡ n' → Tables t t' (mapScheme (nameNo t)) (mapScheme (nameNo t')) b (formTable n) (formTable n')

@@ -55,6 +55,8 @@ use Rattle.theorems_offices.proofs.Over.{Over, next, gives}
 use Rattle.theorems_offices.proofs.Products.{multiply-map, divide-map, raise-map, product-map, single-map}
 use Rattle.theorems_offices.proofs.Contents.{same_map}
 
+-- ══ Whatever is put in ══
+
 module _ {N M : Type 0} (ν : Names N) (μ : Names M) (f : N → M) (keeps : Keeps ν μ f) (l : Limits) (look : Look N) (look' : Look M)
     (looks : (o : Open N) → look' (mapOpen f o) ≡ mapOption (mapTy f) (look o)) where
   factors-map : (p acc : Product N)
@@ -124,6 +126,8 @@ module _ {N M : Type 0} (ν : Names N) (μ : Names M) (f : N → M) (keeps : Kee
   pub binding-map : (b : Binding N) → Over (mapBinding f) (replaceBinding ν l look b) (replaceBinding μ l look' (mapBinding f b))
   unfolding replaceBinding mapBinding
   binding-map (x ≔ t) = next (ty-map t) (λ a a' i. gives (rw i))
+
+-- ══ Bindings, looked up ══
 
 module _ {N M : Type 0} (ν : Names N) (μ : Names M) (f : N → M) (keeps : Keeps ν μ f) where
   find-map : (bs : List (Binding N)) (x : N) → find μ (map (mapBinding f) bs) (f x) ≡ mapOption (mapTy f) (find ν bs x)

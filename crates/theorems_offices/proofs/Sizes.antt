@@ -35,6 +35,8 @@ use Rattle.rules.specs.Offices.{mapOpen, mapFactor, mapTy, map_tys, mapFields, m
 use Rattle.theorems_offices.proofs.Over.{collect-over}
 
 module _ {N M : Type 0} (f : N → M) where
+  -- ══ Open names ══
+
   factor-opens : (x : Factor N) → openOfFactor (mapFactor f x) ≡ map (mapOpen f) (openOfFactor x)
   factor-opens (free o ↑ e) = refl
   factor-opens (base n ↑ e) = refl
@@ -109,6 +111,8 @@ module _ {N M : Type 0} (f : N → M) where
     depth-fields : (fs : Fields N) → depthFields (mapFields f fs) ≡ depthFields fs
     depth-fields noFields = refl
     depth-fields (field n t fs) = rw (depth-map t, depth-fields fs)
+
+  -- ══ Sizes and depths of constraints, bindings and states ══
 
   pub count_map : (ts : Tys N) → count (map_tys f ts) ≡ count ts
   unfolding count mapTy

@@ -19,6 +19,8 @@ use Rattle.theorems_offices.proofs.Products.{inverse-map, multiply-map, divide-m
 use Rattle.theorems_offices.proofs.WellFormed.{good-product}
 use Rattle.theorems_offices.proofs.Naming.{isNamed, held-named, keeps}
 
+-- ══ Asking for a name ══
+
 -- the answer for a name: its bytes, or 3 for a stray number
 told : Name → Got Bytes
 told (named n) = got n
@@ -51,6 +53,8 @@ module _ {pool table pool' table' : List ℕ} (good : Good pool table) (good' : 
 
   given-table : tableGiven pool table ≡ tableGiven pool' table'
   given-table = good-given good ∙ sym (good-given good')
+
+  -- ══ Products by value ══
 
   product-given : (v v' : ProductValue) → ValuesAlike T₁ T₂ v v'
       → Both (map (mapFactor ν₁)) (map (mapFactor ν₂)) (productGiven pool table v) (productGiven pool' table' v')

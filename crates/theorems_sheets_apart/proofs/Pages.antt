@@ -15,6 +15,8 @@ use Rattle.rules.specs.Apart.{Found, accepts, leaves, says, found}
 use Rattle.laws.specs.NameTable.{Good}
 use Rattle.theorems_offices.proofs.Texts.{openShown, tyShown, conShown, name-shown, open-shown, ty-shown, con-shown}
 
+-- ══ What is found, as text ══
+
 abbrev bindingShown : Binding Name → Bytes
 bindingShown (x ≔ t) = ascii "  " ++ (openShown (var x) ++ (ascii " ~ " ++ (tyShown t ++ ascii "\n")))
 
@@ -40,6 +42,8 @@ pub foundAccepted : Found → Bool
 foundAccepted (accepts bs ns k) = true
 foundAccepted (leaves ds k) = false
 foundAccepted (says f) = isAccepted f
+
+-- ══ A finding's text is that of what is found ══
 
 module _ {pool table : List ℕ} (good : Good pool table) where
   abbrev t : Table

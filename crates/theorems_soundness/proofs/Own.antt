@@ -143,6 +143,8 @@ module _ {N : Type 0} (ν : Names N) where
   unfolding sizeState depthState
   flat-fine s f = record { few = omega (arith, cons-some s.cons, f.small); small = omega (arith, f.small); flat = omega (arith, f.flat) }
 
+  -- ══ The answer ══
+
   -- the bindings and bounds of an answer, within the limits
   pub record Within (bs : List (Binding N)) (ns : List N) : Type 0 where
     pub few : length ns ≤ 2048

@@ -32,6 +32,8 @@ module _ {N : Type 0} where
       go (inl m) = h.0 m
       go (inr m) = n (Memᴰ.head (sym (Memᴰ.eq_of_singleton m)))
 
+  -- ══ One key more ══
+
   -- one key more
   keys-more : (bs : List (Binding N)) (x : N) (t : Ty N) → keys (bs ++ (x ≔ t ∷ [])) ≡ keys bs ++ (x ∷ [])
   keys-more [] x t = refl
@@ -73,6 +75,8 @@ module _ {N : Type 0} where
     ok-weaken (is_scalar p) o h = h
     ok-weaken (hasField m s t) o h = h
 
+    -- ══ What replacing keeps ══
+
     -- replacing leaves a constraint of its kind
     same_kind : (ν : Names N) (l : Limits) (look : Look N) (c c' : Con N) → replaceCon ν l look c ≡ got c' → (o : Open N) → okFor Parameter ks c o
         → okFor Parameter ks c' o
@@ -99,6 +103,8 @@ module _ {N : Type 0} (ν : Names N) (law : Lawful (orderAtom ν)) (held : N →
     (tells : Tells (λ a. goodAtom ν held q a ≡ true) (orderAtom ν)) (Parameter : N → Type 0) where
   abbrev Good : Con N → Type 0
   Good = GoodCon ν law held q
+
+  -- ══ What is kept ══
 
   pub record Kept (s : State N) : Type 0 where
     pub cons-good : All Good s.cons

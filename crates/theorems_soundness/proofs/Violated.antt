@@ -22,7 +22,17 @@ use Rattle.theorems_soundness.proofs.Runs as Runs
 use Rattle.theorems_soundness.proofs.Judged as Judged
 use Rattle.theorems_soundness.proofs.Unmet as Unmet
 use Rattle.theorems_soundness.specs.Examples.{names, held, fields, product-left, product, products, products-bindings}
-use Rattle.theorems_soundness.proofs.Instances.{ordered, fields-given, fields-accepted, fields-premise, fields-violated, products-given, products-accepted, products-judged, product-violated}
+use Rattle.theorems_soundness.proofs.Instances.{
+  ordered,
+  fields-given,
+  fields-accepted,
+  fields-premise,
+  fields-violated,
+  products-given,
+  products-accepted,
+  products-judged,
+  product-violated,
+}
 
 -- ══ A Violated constraint has no solution, except for one exception ══
 
