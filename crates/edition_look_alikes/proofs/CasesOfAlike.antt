@@ -1,14 +1,13 @@
 -- Names that look alike, and names with format characters, by computation: small names, byte by byte.
-use Rattle.std.specs.Prelude.{◌≡◌, refl, true, false, List, [], ◌∷◌}
+use Rattle.std.specs.Prelude.{◌≡◌, refl, true, false, [], ◌∷◌}
 use Rattle.std.specs.Char.{encode_utf8}
 use Rattle.std.specs.Str.{chars, is_utf8}
 use Rattle.caseless.proofs.Computing.{caseless}
 use Rattle.unicode_normalization.proofs.Computing.{unicode_normalization}
 use Rattle.ucd_category.proofs.Computing.{ucd_category}
-use Rattle.rules.specs.Names.{Bytes, sameBytes}
+use Rattle.rules.specs.Names.{Bytes}
 use Rattle.rules.specs.Rules.{rules}
-use Rattle.edition_look_alikes.specs.declared.Pair.{Pair}
-use Rattle.edition_look_alikes.specs.Alike.{alike, isFormat, hasFormat, alikeTo, alikePairs, withFormat}
+use Rattle.edition_look_alikes.specs.Alike.{alike, isFormat, hasFormat, alikeTo, alikePairs}
 
 -- größe: ö as one character, and as o with a mark above it
 abbrev composed : Bytes

@@ -14,7 +14,7 @@ use Rattle.records.specs.Views.{viewAt}
 use Rattle.queries.specs.Marks.{Filled}
 use Rattle.engine_matrix.specs.declared.inner.parts.Columns.{Columns}
 use Rattle.engine_matrix.specs.Machine.{namesIn}
-use Rattle.rules.specs.Base.{Got, got, refused, ◌>>=◌, ◌>>◌, need}
+use Rattle.rules.specs.Base.{Got, got, refused, ◌>>=◌, need}
 use Rattle.std.proofs.lemmas.Bool.{leb-true, le-leb, lt-leb}
 use Rattle.std.proofs.Math.Dec.{leb}
 use Rattle.engine_rows.specs.Columns.{basesView, basesFrom, basesIn, vars, pars, bases, listed, headed}

@@ -8,7 +8,7 @@ use native.Mathlib.Omega.{arith}
 use Rattle.std.proofs.Math.ListN.{length, length-append}
 use Rattle.std.proofs.lemmas.Bool.{leb-true, le-leb, lt-leb}
 use Rattle.std.proofs.Math.Dec.{leb}
-use Rattle.rules.specs.Base.{Got, got, refused, ◌>>=◌, ◌>>◌, need, each}
+use Rattle.rules.specs.Base.{Got, got, refused, ◌>>=◌, need, each}
 use Rattle.rules.specs.Names.{Bytes, numbered}
 use Rattle.rules.specs.Trees as tree
 use Rattle.rules.specs.Trees.{Product, Con, equal, isDim, is_scalar, hasField}

@@ -1,7 +1,7 @@
 -- Atoms of the code and of the trees, and rows with zeros past their columns.
 use Rattle.std.specs.Prelude.{◌≡◌, true, length, replicate}
 use mathlib.Core.List.{◌++◌}
-use Prim.Native.Nat.{ℕ, ◌+◌, ◌-◌}
+use Prim.Native.Nat.{ℕ, ◌-◌}
 use Rattle.rules.specs.Exponents.{Exp, nought, goodExp}
 use Rattle.rules.specs.Trees.{Factor, ◌↑◌, Product}
 use Rattle.laws.specs.Lists.{Every}

@@ -12,7 +12,7 @@ use Rattle.records.specs.declared.View.TheVariants as view
 use Rattle.queries.specs.Scans.{opensIn}
 use Rattle.engine_matrix.specs.declared.inner.parts.Columns.{Columns}
 use Rattle.engine_matrix.specs.Machine.{namesIn}
-use Rattle.rules.specs.Base.{Got, got, ◌>>=◌, ◌>>◌, need}
+use Rattle.rules.specs.Base.{Got, got, ◌>>◌, need}
 use Rattle.std.proofs.Math.Dec.{leb}
 
 abbrev pub basesAtom : Atom → List ℕ

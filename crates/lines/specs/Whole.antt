@@ -11,7 +11,6 @@ use Rattle.rules.specs.Steps.{LineStep, whole}
 use Rattle.rules.specs.Lines.{lineType, lineShort, checkedLine}
 use Rattle.rules.specs.declared.Refusal.{Refusal}
 use Rattle.laws.specs.Lists.{Every}
-use Rattle.laws.specs.NameTable.{Good}
 use Rattle.theorems_lines.specs.FormedSteps.{FormedStep}
 use Rattle.names.specs.declared.tables.NameTable.{NameTable}
 use Rattle.lines.specs.Nested.{Flat}

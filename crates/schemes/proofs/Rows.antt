@@ -8,7 +8,7 @@ use Rattle.rules.specs.Refusals.{number_of}
 use Rattle.rules.specs.Writing.{Rec}
 use Rattle.rules.specs.declared.Refusal.{Refusal}
 use Rattle.laws.proofs.Checks.{first-passed, next-passed, list-short}
-use Rattle.records_buffers.proofs.Handed.{made-refused}
+use Rattle.records_buffers.proofs.Handed.{made-refused, made-as}
 use Rattle.records_buffers.specs.Told.{Made}
 use Rattle.schemes.specs.Entry.{short}
 

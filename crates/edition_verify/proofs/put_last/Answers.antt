@@ -1,6 +1,5 @@
 use Rattle.std.proofs.Common.{◌≡◌, ◌-◌, refl, arith, append_assoc}
 use Rattle.edition_verify.specs.Verifying.{lastText}
-use Rattle.rules.specs.Reports.{quantity}
 use Rattle.edition_verify.proofs.put_last.Goals as goal
 
 pub returns : goal.returns

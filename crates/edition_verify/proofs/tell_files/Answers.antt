@@ -1,4 +1,4 @@
-use Rattle.std.proofs.Common.{◌≡◌, List, refl, arith}
+use Rattle.std.proofs.Common.{List, refl, arith}
 use Rattle.rules.specs.Base.{collect}
 use Rattle.laws.proofs.Numbers.{yes_counts}
 use Rattle.edition.specs.Files.{files_of}

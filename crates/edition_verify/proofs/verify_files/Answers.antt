@@ -1,4 +1,4 @@
-use Rattle.std.proofs.Common.{◌≡◌, ◌≤◌, refl, sym, arith, append_assoc, length}
+use Rattle.std.proofs.Common.{◌≡◌, ◌≤◌, refl, arith, append_assoc, length}
 use Rattle.edition.specs.Files.{files_of}
 use Rattle.edition_verify.specs.Verifying.{verifiedText, othersIn}
 use Rattle.edition_verify.proofs.Going.{all-yes, as-many, few-others}

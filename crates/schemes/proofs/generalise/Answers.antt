@@ -3,7 +3,7 @@ use mathlib.Core.Path.{ap, ◌∙◌}
 use mathlib.Core.Bool.{not}
 use Rattle.std.proofs.Common.{sym}
 use Rattle.rules.specs.Calls.{generaliseCall}
-use Rattle.records_buffers.proofs.Handed.{unwritten}
+use Rattle.records_buffers.proofs.Handed.{unwritten, made-as}
 use Rattle.records_buffers.proofs.OnLent.{Long, long, short}
 use Rattle.schemes.proofs.Generalising.{generalise-row}
 use Rattle.schemes.proofs.Called.{over_tested, called}

@@ -10,7 +10,7 @@ use Rattle.records.specs.Found.{Words32}
 use Rattle.records.specs.Good.{goodTy}
 use Rattle.types.specs.Given.{type_in}
 use Rattle.types.proofs.Tested.{given, same_table}
-use Rattle.records_buffers.proofs.Handed.{made-refused}
+use Rattle.records_buffers.proofs.Handed.{made-refused, made-as}
 use Rattle.replace_calls.specs.Made.{madeType}
 use Rattle.replace_calls.proofs.Checks.{second-too-long, first-stops, second-stops}
 use Rattle.replace_calls.proofs.Whole.{made-apart, type-opened, type-both}
