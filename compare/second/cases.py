@@ -2,16 +2,15 @@
 
 from array import array
 
-from calls import line_set
 from records import write_binding, write_bounds, write_constraint, write_scheme, write_set, write_type
-from solving import generalise, quantify, solve
+from solving import solve
 from text import written_line
 from values import BASE, LIMIT, PARAMETER, QUANTIFIED, VARIABLE, Refused, factor_order
 
-SEEDS = [b"x", b"y", b"z", b"a", b"b", b"L", b"M", b"P", b"Q", b"f", b"g", b"xy", b"x\0", b"\xff", b"A b", b"~", b"\n", b"Bool", b"0", b"n" * 48, b"--", b'"',
-         b"\xc3\xa9", b"aa", b"ab", b"a" * 47]
-NUMBERS = [0, 1, 2, 3, 4, 5, 7, 8, 10, 11, 13, 14, 20, 24, 25, 26, 63, 64, 65, 255, 256, 257, 2048, 65535, 65536, 65537, 131072, 2**30, 2**30 + 1, LIMIT, LIMIT + 1, 2**32 - 1,
-           2**32 - 2]
+SEEDS = [b"x", b"y", b"z", b"a", b"b", b"L", b"M", b"P", b"Q", b"f", b"g", b"xy", b"x\0", b"\xff", b"A b", b"~", b"\n", b"Bool", b"0", b"n" * 48, b"--",
+         b'"', b"\xc3\xa9", b"aa", b"ab", b"a" * 47]
+NUMBERS = [0, 1, 2, 3, 4, 5, 7, 8, 10, 11, 13, 14, 20, 24, 25, 26, 63, 64, 65, 255, 256, 257, 2048, 65535, 65536, 65537, 131072, 2**30, 2**30 + 1,
+           LIMIT, LIMIT + 1, 2**32 - 1, 2**32 - 2]
 
 
 BOOL = ("bool",)
@@ -488,9 +487,10 @@ def writing(rng):
     return faults(rng, given, ["set"], 0.3)
 
 
-SNIPPETS = [b"?", b"!", b"#", b"@", b"[", b"]", b"<", b">", b"{", b"}", b"(", b")", b",", b":", b"~", b"=", b"*", b"^", b"/", b"-", b"->", b'"', b" ", b"\t", b"\r",
-            b"\n", b"\\", b"\\41", b"x", b"0", b"00", b"2147483647", b"2147483648", b"99999999999", b"Bool", b"String", b"DateTime", b"DType", b"Scalar", b"Fn",
-            b"List", b"HasField", b"--", b"^(1/0)", b"^(0)", b"^(-0/5)", b"^(2/4)", b"[]", b"?x", b"@P", b"\xff", b"\0", b"n" * 48, b"n" * 49, b" * ?x", b"^( - 3 / 6 )"]
+SNIPPETS = [b"?", b"!", b"#", b"@", b"[", b"]", b"<", b">", b"{", b"}", b"(", b")", b",", b":", b"~", b"=", b"*", b"^", b"/", b"-", b"->", b'"', b" ", b"\t",
+            b"\r", b"\n", b"\\", b"\\41", b"x", b"0", b"00", b"2147483647", b"2147483648", b"99999999999", b"Bool", b"String", b"DateTime", b"DType", b"Scalar",
+            b"Fn", b"List", b"HasField", b"--", b"^(1/0)", b"^(0)", b"^(-0/5)", b"^(2/4)", b"[]", b"?x", b"@P", b"\xff", b"\0", b"n" * 48, b"n" * 49,
+            b" * ?x", b"^( - 3 / 6 )"]
 
 
 def sheet(rng):

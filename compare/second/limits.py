@@ -2,6 +2,7 @@
 
 from cases import BOOL, FILLED, Makes, faults, standard, words, worsen
 from records import size, write_binding, write_bounds, write_constraint, write_scheme, write_set, write_type
+from text import written_line
 from values import BASE, LIMIT, PARAMETER, QUANTIFIED, VARIABLE, factor_order
 
 
@@ -35,10 +36,14 @@ class Wide(Makes):
         return tuple(sorted((key + self.exponent() for key in keys), key=factor_order(self.names)))
 
 
-def lists(one, depth):
+def lists(one, depth, wrap=None):
     for _ in range(depth):
-        one = ("list", one)
+        one = wrap(one) if wrap else ("list", one)
     return one
+
+
+WRAPS = [None, lambda one: ("struct", 0, (BOOL, one), ()), lambda one: ("fn", (one,), BOOL), lambda one: ("fn", (), one),
+         lambda one: ("struct", 0, (), ((1, one),))]
 
 
 def struct_of(name, parts):
@@ -109,10 +114,12 @@ def growing(rng, makes):
 
 
 def nested(rng, makes):
+    """Two types that are nested some 64 deep once one stands in the other."""
     a = rng.randint(0, 63)
     b = min(63, max(0, 64 - a + rng.choice([-2, -1, -1, 0, 1])))
     x, y = makes.var(), makes.var()
-    made = [("equal", ("var", x), lists(rng.choice([BOOL, ("var", y)]), a)), ("isdim", lists(("var", x), b))]
+    first, second = rng.choice(WRAPS), rng.choice(WRAPS)
+    made = [("equal", ("var", x), lists(rng.choice([BOOL, ("var", y)]), a, first)), ("isdim", lists(("var", x), b, second))]
     made += [makes.constraint() for _ in range(rng.choice([0, 0, 1]))]
     rng.shuffle(made)
     return made
@@ -280,7 +287,7 @@ def large_scheme(rng, key="scheme"):
     makes = Wide(rng) if wide else few(rng)
     given = standard(rng, makes, ("result", "work"))
     count = rng.choice([0, 1, 3, 40])
-    concrete = key != "names" and rng.random() < 0.7
+    concrete = key == "words" or (key == "scheme" and rng.random() < 0.7)
     if wide:
         one = makes.type(2, 0 if concrete else count)
     else:
@@ -321,9 +328,34 @@ def full_adding(rng):
     return faults(rng, given, ["constraint"], 0.04)
 
 
+NESTS = [(b"List<", b">"), (b"@P<", b">"), (b"@P{f: ", b"}"), (b"Fn[(", b") -> Bool]"), (b"Fn[() -> ", b"]"), (b" Fn [(?y , ", b")->?y]")]
+LEAVES = [b"?x", b"[]", b"Bool", b"@P", b"?", b"[", b"B", b"Q", b"", b"@P{x: Bool}", b"Fn[() -> Bool]", b"[?x^(9/0)]", b"List<", b"-", b"H"]
+POWERS = [b"", b"", b"", b"^(-1)", b"^(0)", b"^(2/4)", b"^(2147483647)", b"^(-2147483647)", b"^(1/2147483647)", b"^(2147483648)", b"^(0/0)", b"^(4/2147483648)",
+          b"^(00000000000000000001)"]
+PLAIN = b"abcdefghijklmnopqrstuvwxyzABLMPQ0123456789"
+
+
+def deep_line(rng):
+    nests = [rng.choice(NESTS) for _ in range(rng.choice([62, 63, 64, 65, 66, 70]))]
+    line = b"".join(before for before, _ in nests) + rng.choice(LEAVES) + b"".join(after for _, after in reversed(nests))
+    line += rng.choice([b": DType", b" ~ Bool", b"", b": D", b"~"])
+    if rng.random() < 0.2:
+        line = b"Bool ~ " + line
+    return b"HasField(" + line + b', "f", Bool)' if rng.random() < 0.1 else line
+
+
+def long_product(rng, makes):
+    factors = []
+    for _ in range(rng.choice([3, 63, 64, 65, 66, 100])):
+        name = rng.choice(makes.names + [b"n%d" % rng.randrange(150), b"n%d" % rng.randrange(150), b"k%d" % rng.randrange(99)])
+        escaped = b"".join(bytes([byte]) if byte in PLAIN else b"\\%02X" % byte for byte in name)
+        power = rng.choice(POWERS if rng.random() < 0.3 else [b"", b"^(2)"])
+        factors.append(bytes([rng.choice(b"?!####")]) + escaped + power)
+    return rng.choice([b"[", b"[?n1] ~ [", b"Bool ~ @P<["]) + b" * ".join(factors) + rng.choice([b"] = Scalar", b"]: DType", b"]>"])
+
+
 def long_sheet(rng):
     """Text near 2,048 records, 64 nested types, 64 factors or a full table."""
-    from text import written_line, written_type
     makes = Wide(rng) if rng.random() < 0.4 else few(rng)
     pick = rng.random()
     lines = [written_line(makes.names, makes.constraint()) for _ in range(rng.randint(0, 2))]
@@ -333,26 +365,8 @@ def long_sheet(rng):
         lines += [written_line(makes.names, makes.constraint()) for _ in range(rng.randint(1, 3))]
         if rng.random() < 0.5:
             rng.shuffle(lines)
-    elif pick < 0.65:
-        depth = rng.choice([62, 63, 64, 65, 66, 70])
-        one = rng.choice([b"?x", b"[]", b"Bool", b"@P", b"?", b"[", b"B", b"Q", b"", b"@P{x: Bool}", b"Fn[() -> Bool]", b"[?x^(9/0)]", b"List<", b"-", b"H"])
-        opens = [rng.choice([(b"List<", b">"), (b"@P<", b">"), (b"@P{f: ", b"}"), (b"Fn[(", b") -> Bool]"), (b"Fn[() -> ", b"]"), (b" Fn [(?y , ", b")->?y]")])
-                 for _ in range(depth)]
-        line = b"".join(a for a, _ in opens) + one + b"".join(b for _, b in reversed(opens)) + rng.choice([b": DType", b" ~ Bool", b"", b": D", b"~"])
-        if rng.random() < 0.2:
-            line = b"Bool ~ " + line
-        if rng.random() < 0.1:
-            line = b"HasField(" + line + b', "f", Bool)'
-        lines.append(line)
     else:
-        factors = []
-        for _ in range(rng.choice([3, 63, 64, 65, 66, 100])):
-            tag = rng.choice(b"?!####")
-            name = rng.choice(makes.names + [b"n%d" % rng.randrange(150), b"n%d" % rng.randrange(150), b"k%d" % rng.randrange(99)])
-            power = rng.choice([b"", b"", b"", b"^(-1)", b"^(0)", b"^(2/4)", b"^(2147483647)", b"^(-2147483647)", b"^(1/2147483647)", b"^(2147483648)",
-                                b"^(0/0)", b"^(4/2147483648)", b"^(00000000000000000001)"] if rng.random() < 0.3 else [b"", b"^(2)"])
-            factors.append(bytes([tag]) + b"".join(bytes([c]) if c in b"abcdefghijklmnopqrstuvwxyzABLMPQ0123456789" else b"\\%02X" % c for c in name) + power)
-        lines.append(rng.choice([b"[", b"[?n1] ~ [", b"Bool ~ @P<["]) + b" * ".join(factors) + rng.choice([b"] = Scalar", b"]: DType", b"]>"]))
+        lines.append(deep_line(rng) if pick < 0.65 else long_product(rng, makes))
     text = bytearray(b"\n".join(lines))
     if rng.random() < 0.15 and text:
         place = rng.randrange(len(text))
@@ -361,9 +375,7 @@ def long_sheet(rng):
     if rng.random() < 0.3:
         held = (held + [b"%03d" % i for i in range(256)])[:rng.choice([200, 254, 255, 256])]
     makes.names = held
-    given = standard(rng, makes, ("result", "work"))
-    given["text"] = bytes(text)
-    return given
+    return dict(standard(rng, makes, ("result", "work")), text=bytes(text))
 
 
 def large_written(rng):
@@ -397,7 +409,8 @@ def large_compact(rng):
     rng.shuffle(makes.names)
     makes.vars = rng.sample(range(len(makes.names)), 30)
     given = standard(rng, makes, ())
-    sets = [words(write_set(full(rng, makes) if rng.random() < 0.1 else makes.set(4))) for _ in range(rng.choice([1, 2, 63, 64, 65]) if rng.random() < 0.2 else 3)]
+    count = rng.choice([1, 2, 63, 64, 65]) if rng.random() < 0.2 else 3
+    sets = [words(write_set(full(rng, makes) if rng.random() < 0.1 else makes.set(4))) for _ in range(count)]
     given["sets"] = words([word for one in sets for word in one])
     given["lengths"] = words([len(one) // 4 for one in sets])
     return faults(rng, given, ["lengths"] if rng.random() < 0.1 else [], 0.05)

@@ -228,16 +228,13 @@ def size_of(constraint):
 
 def write_type(one):
     kind = one[0]
-    tail = [word for part in inner(one) for word in write_type(part)]
     if kind in PLAIN_KINDS:
-        head = (PLAIN_KINDS[kind], 0, 0, 0)
-    elif kind in ("var", "par", "quant"):
-        head = ({"var": 1, "par": 2, "quant": 14}[kind], one[1], 0, 0)
-    elif kind == "dim":
+        return [PLAIN_KINDS[kind] + 65536, 0, 0, 0]
+    if kind in ("var", "par", "quant"):
+        return [{"var": 1, "par": 2, "quant": 14}[kind] + 65536, one[1], 0, 0]
+    if kind == "dim":
         head = (3, len(one[1]), 0, 0)
         tail = [word for tag, name, num, den in one[1] for word in (FACTOR_KINDS[tag] + 65536, name, num % 2**32, den)]
-    elif kind == "fn":
-        head = (7, len(one[1]), 0, 0)
     elif kind == "struct":
         head = (8, one[1], len(one[2]), len(one[3]))
         tail = [word for part in one[2] for word in write_type(part)]
@@ -245,7 +242,8 @@ def write_type(one):
             inside = write_type(field)
             tail += [9 + 65536 * (1 + len(inside) // 4), name, 0, 0] + inside
     else:
-        head = (10, 0, 0, 0)
+        head = (7, len(one[1]), 0, 0) if kind == "fn" else (10, 0, 0, 0)
+        tail = [word for part in inner(one) for word in write_type(part)]
     return [head[0] + 65536 * (1 + len(tail) // 4), *head[1:]] + tail
 
 
