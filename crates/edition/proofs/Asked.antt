@@ -33,16 +33,16 @@ none-found result = record { answer = refl; buffer = refl }
 asked-is : (s : List ℕ) (o : Outcome) (f : Finding) → IsFinding s o f → (m : Got (Option (List (Line ℕ)))) → askedBy o m ≡ ifRemains f m
 asked-is s (outcome.Unseen u) f h m = rw h refl
 asked-is s (outcome.Unread e) f h m = rw h refl
-asked-is s (outcome.Agrees b n k) f h m = rw h.1.1.0 refl
+asked-is s (outcome.Agrees b n k) f h m = rw h.is refl
 asked-is s (outcome.Denied i) f h m = rw h refl
 asked-is s (outcome.Unjudged r) f h m = rw h refl
-asked-is s (outcome.Remains e k) f h m = rw h.1.0 refl
+asked-is s (outcome.Remains e k) f h m = rw h.is refl
 asked-is s (outcome.Stops r k) f h m = rw h refl
 
 module _ (t : Table) (x : Sheet) (p : Page) (is : IsSheet x p) (s : List ℕ) (o : Outcome) (h : IsFinding s o (findingOf t p.content)) where
   conflict-is : (c : kind.Content) → Holds c x.records.items p → askedBy o (conflictOf t x.records.items) ≡ conflictOn t p.content
   unfolding conflictOn
-  conflict-is (content.Set r) k = asked-is s o _ h _ ∙ rw (k.1.0, k.1.1.0.is) refl
+  conflict-is (content.Set r) k = asked-is s o _ h _ ∙ rw (k.is-set, k.kept.is) refl
   conflict-is (content.Refused e) k = asked-is s o _ h _ ∙ rw (found-unread t p _ _ _ k.0) refl
   conflict-is (content.Unseen u) k = asked-is s o _ h _ ∙ rw (found-unseen t p k.0) refl
 

@@ -19,12 +19,12 @@ pub tells : (name text : Bytes) (c : Content) (ws : List ℕ) (p : Page) → IsP
 tells name text c ws p h = record { named = h.named; typed = h.typed; many = many-is c h.holds; fresh = fresh-is c h.holds }
   where
     many-is : (c : Content) → Holds c ws p → constraintsOf c ≡ constraintsIn p.content
-    many-is (content.Set r) k = rw k.1.0 k.1.1.0.many
+    many-is (content.Set r) k = rw k.is-set k.kept.many
     many-is (content.Refused e) k = rw k.0 refl
     many-is (content.Unseen u) k = rw k.0 refl
 
     fresh-is : (c : Content) → Holds c ws p → namesOf c ≡ p.new
-    fresh-is (content.Set r) k = k.1.1.1
+    fresh-is (content.Set r) k = k.fresh
     fresh-is (content.Refused e) k = k.1
     fresh-is (content.Unseen u) k = k.1
 

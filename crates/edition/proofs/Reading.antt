@@ -21,7 +21,12 @@ use Rattle.edition.specs.Reading.{contentOf}
 module _ (pool table pool' table' : List ℕ) (name text : Bytes) (ws : List ℕ) where
   set-holds : (cs : List (Con ℕ)) (s : Sofar) → sheetRead pool table text ≡ sheet cs s → (r : Read) → ReadTo pool table pool' table' ws (Ok r) (sheet cs s)
       → Holds (content.Set r) ws (record { name = name; text = text; new = s.fresh; content = holding cs })
-  set-holds cs s q r h = (cs, (refl, (record { is = h.is; many = h.many; back = λ t ds e. read-back pool table text q t ds (rw h.is at e) }, h.new)))
+  set-holds cs s q r h = record {
+    cs = cs;
+    is-set = refl;
+    kept = record { is = h.is; many = h.many; back = λ t ds e. read-back pool table text q t ds (rw h.is at e) };
+    fresh = h.new;
+  }
 
   pub read-page : (r : Result Read stop.NotRead) → ReadTo pool table pool' table' ws r (sheetRead pool table text)
       → (p : Page) × IsPage name text (contentOf r) ws p

@@ -15,6 +15,8 @@ use Rattle.text_sheet.specs.declared.NotRead.{NotRead}
 use Rattle.edition.proofs.Pages.{lent-given}
 use Rattle.edition.specs.Sheets.{ReadTo}
 
+-- ══ What stands at the front of the result ══
+
 err-ok : {A E : Type 0} {e : E} {a : A} → ◌≡◌ {A = Result A E} (Err e) (Ok a) → ⊥
 err-ok e = cc
 
@@ -30,6 +32,8 @@ unfolding over
 front-fits cs result n e =
     let w = words (collect writeCon cs) in
     omega (arith, e, words-length (collect writeCon cs), set-length cs, length-append w (drop (length w) result))
+
+-- ══ A sheet that is read ══
 
 module _ {pool table : List ℕ} (good : Good pool table) (text result work : List ℕ) (r-long : length result ≡ 8192) (w-long : 16384 ≤ length work) where
   pub all-lent : lent pool table result work ≡ got tt

@@ -21,9 +21,16 @@ pub record Kept (ws : List ℕ) (n : ℕ) (cs : List (Con ℕ)) : Type 0 where
   pub many : n ≡ length cs
   pub back : (t : Table) (ds : List (Con ℕ)) → setGiven t ws ≡ got ds → ds ≡ cs
 
+-- a page holds a set of constraints: these, read with so many new names
+pub record HoldsSet (constraints names : ℕ) (ws : List ℕ) (p : Page) : Type 0 where
+  pub cs : List (Con ℕ)
+  pub is-set : p.content ≡ holding cs
+  pub kept : Kept ws constraints cs
+  pub fresh : names ≡ p.new
+
 -- what is kept of a file is what its page holds
 abbrev pub Holds : Content → List ℕ → Page → Type 0
-Holds (content.Set r) ws p = (cs : List (Con ℕ)) × ((p.content ≡ holding cs) × (Kept ws r.constraints cs × (r.names ≡ p.new)))
+Holds (content.Set r) ws p = HoldsSet r.constraints r.names ws p
 Holds (content.Refused e) ws p = (p.content ≡ refusing (number_of e.why) e.line e.column) × (0 ≡ p.new)
 Holds (content.Unseen u) ws p = (p.content ≡ lacking u) × (0 ≡ p.new)
 

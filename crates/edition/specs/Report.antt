@@ -10,8 +10,8 @@ use Rattle.edition.specs.declared.Failed.TheVariants as failed
 
 -- all sheets, and those of them that are accepted
 pub record Counted (sheets accepted : ℕ) (e : Edition) : Type 0 where
-  pub all : sheets ≡ length e.pages
-  pub yes : accepted ≡ acceptedIn (table_of e.pool e.table) e.pages
+  pub sheet-count : sheets ≡ length e.pages
+  pub accepted-count : accepted ≡ acceptedIn (table_of e.pool e.table) e.pages
 
 -- pool and table with the names of all sheets that were read
 pub record Named (pool' table' : List ℕ) (e : Edition) : Type 0 where

@@ -33,7 +33,7 @@ module _ (s : List ℕ) (solution : Solution) (a : Got (Answer ℕ)) (h : Stands
         go : (m : Got (Answer ℕ)) → StandsBy s (Ok (finish.Solved b n)) solution.rounds m → PlacedAs ν cs m (got none)
             → IsFinding s (outcome.Agrees b n solution.rounds) (finding ν cs m)
         go (refused j) q f = absurd q
-        go (got (accepted bs ns k)) q f = rw (← f) (bs, (ns, (rw (← q.0) refl, q.1)))
+        go (got (accepted bs ns k)) q f = rw (← f) (record { bs = bs; ns = ns; is = rw (← q.0) refl; solved = q.1 })
         go (got (remaining ds k)) q f = absurd q
         go (got (stopped j k)) q f = absurd q
 
@@ -66,7 +66,7 @@ module _ (s : List ℕ) (solution : Solution) (a : Got (Answer ℕ)) (h : Stands
       go : (m : Got (Answer ℕ)) → StandsBy s (Ok (finish.Unsolved n)) solution.rounds m → IsFinding s (outcome.Remains n solution.rounds) (finding ν cs m)
       go (refused j) q = absurd q
       go (got (accepted bs ns k)) q = absurd q
-      go (got (remaining ds k)) q = (ds, (rw (← q.0) refl, q.1))
+      go (got (remaining ds k)) q = record { ds = ds; is = rw (← q.0) refl; left = q.1 }
       go (got (stopped j k)) q = absurd q
 
   pub found-stops : {r : Refusal} → solution.outcome ≡ Err r → IsFinding s (outcome.Stops r solution.rounds) (finding ν cs a)
@@ -89,7 +89,7 @@ module _ (s : List ℕ) (solution : Solution) (a : Got (Answer ℕ)) (h : Stands
     where
       go : (m : Got (Answer ℕ)) → StandsBy s (Ok (finish.Solved b n)) solution.rounds m → (f : Finding) × IsFinding s (outcome.Agrees b n solution.rounds) f
       go (refused j) q = absurd q
-      go (got (accepted bs ns k)) q = (agrees bs ns solution.rounds, (bs, (ns, (refl, q.1))))
+      go (got (accepted bs ns k)) q = (agrees bs ns solution.rounds, record { bs = bs; ns = ns; is = refl; solved = q.1 })
       go (got (remaining ds k)) q = absurd q
       go (got (stopped j k)) q = absurd q
 
@@ -99,17 +99,17 @@ module _ (s : List ℕ) (solution : Solution) (a : Got (Answer ℕ)) (h : Stands
       go : (m : Got (Answer ℕ)) → StandsBy s (Ok (finish.Unsolved n)) solution.rounds m → (f : Finding) × IsFinding s (outcome.Remains n solution.rounds) f
       go (refused j) q = absurd q
       go (got (accepted bs ns k)) q = absurd q
-      go (got (remaining ds k)) q = (remains ds solution.rounds, (ds, (refl, q.1)))
+      go (got (remaining ds k)) q = (remains ds solution.rounds, record { ds = ds; is = refl; left = q.1 })
       go (got (stopped j k)) q = absurd q
 
 -- ══ Rows of what is found ══
 
 -- where bindings and bounds, or what remains, stand in a list that is short enough, so do their rows
 pub solved-there : {s : List ℕ} {b n k : ℕ} → (f : Finding) × IsFinding s (outcome.Agrees b n k) f → (rs : List Row) × RowsAt s 0 (b + n) rs
-solved-there {s} {b} {n} w = let h = w.1 in (_, solved-rows s b n h.0 h.1.0 h.1.1.1)
+solved-there {s} {b} {n} w = let h = w.1 in (_, solved-rows s b n h.bs h.ns h.solved)
 
 pub left-there : {s : List ℕ} {e k : ℕ} → (f : Finding) × IsFinding s (outcome.Remains e k) f → (rs : List Row) × RowsAt s 0 e rs
-left-there {s} {e} w = let h = w.1 in (_, left-rows s h.0 0 e h.1.1)
+left-there {s} {e} w = let h = w.1 in (_, left-rows s h.ds 0 e h.left)
 
 pub solved-in : {s : List ℕ} {b n k : ℕ} → length s ≤ 4_000_000_000 → (f : Finding) × IsFinding s (outcome.Agrees b n k) f → b + n ≤ 4_000_000_000
 solved-in {s} {b} {n} near w = let r = solved-there w in omega (arith, near, chain-in s r.0 0 (b + n) (omega arith) r.1.chain)

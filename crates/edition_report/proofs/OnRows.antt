@@ -40,20 +40,20 @@ module _ (s : List ℕ) where
   -- ══ What the record at a place says of its row ══
 
   pub record Bound (o : opens.Open) (r : Row) : Type 0 where
-    pub x : ℕ
-    pub is : r ≡ bound x
-    pub name : opens.TheVariants.Var x ≡ o
+    pub variable : ℕ
+    pub is : r ≡ bound variable
+    pub name : opens.TheVariants.Var variable ≡ o
 
   pub record Bind (at x : ℕ) (r : Row) : Type 0 where
-    pub t : Ty ℕ
-    pub is : r ≡ binding (x ≔ t)
-    pub holds : Holds s t (at + 1)
+    pub type : Ty ℕ
+    pub is : r ≡ binding (x ≔ type)
+    pub holds : Holds s type (at + 1)
     pub within : at < length s / 4
 
   pub record Remains (at : ℕ) (r : Row) : Type 0 where
-    pub c : Con ℕ
-    pub is : r ≡ left c
-    pub holds : HoldsCon s c at
+    pub constraint : Con ℕ
+    pub is : r ≡ left constraint
+    pub holds : HoldsCon s constraint at
 
   not-con : (c : Con ℕ) (at : ℕ) (v : View) → HoldsCon s c at → viewAt s at ≡ v → ((x : ℕ) → v ≡ view.Binding x → ⊥) × ((o : opens.Open) → v ≡ view.Bound o → ⊥)
   unfolding HoldsCon
@@ -72,7 +72,7 @@ module _ (s : List ℕ) where
       let q : view.Binding y ≡ view.Binding x = sym h.0.0 ∙ v in
       let z : y ≡ x = cc in
       record {
-        t = t;
+        type = t;
         is = ap (λ (n : ℕ). binding (n ≔ t)) z;
         holds = h.0.1;
         within = let i = binding-in s (y ≔ t) at h.0 in omega (arith, i);
@@ -86,7 +86,7 @@ module _ (s : List ℕ) where
   as_bound at e o v (bound y) h =
       let q : view.Bound (opens.TheVariants.Var y) ≡ view.Bound o = sym h.0.0 ∙ v in
       let z : opens.TheVariants.Var y ≡ o = cc in
-      record { x = y; is = refl; name = z }
+      record { variable = y; is = refl; name = z }
   as_bound at e o v (left c) h = absurd ((not-con c at (view.Bound o) h.0 v).1 o refl)
 
   pub as_left : (at e : ℕ) → ((x : ℕ) → viewAt s at ≡ view.Binding x → ⊥) → ((o : opens.Open) → viewAt s at ≡ view.Bound o → ⊥) → (r : Row)
@@ -94,7 +94,7 @@ module _ (s : List ℕ) where
   unfolding HoldsBinding
   as_left at e p q (binding (y ≔ t)) h = absurd (p y h.0.0)
   as_left at e p q (bound y) h = absurd (q (opens.TheVariants.Var y) h.0.0)
-  as_left at e p q (left c) h = record { c = c; is = refl; holds = h.0 }
+  as_left at e p q (left c) h = record { constraint = c; is = refl; holds = h.0 }
 
   -- ══ Rows one after another ══
 
@@ -118,11 +118,11 @@ module _ (s : List ℕ) where
   no-rows at end le (r ∷ rs) f = let c = f.chain in absurd (omega (arith, row-on at c.0 r c.1.0, chain-on rs c.0 end c.1.1, le))
 
   pub record First (at end n : ℕ) (rs : List Row) : Type 0 where
-    pub r : Row
-    pub us : List Row
-    pub is : rs ≡ r ∷ us
-    pub here : RowHere s at r (at + n)
-    pub others : RowsAt s (at + n) end us
+    pub row : Row
+    pub rest : List Row
+    pub is : rs ≡ row ∷ rest
+    pub here : RowHere s at row (at + n)
+    pub others : RowsAt s (at + n) end rest
     pub after : at < at + n
     pub within : at + n ≤ end
 
@@ -132,8 +132,8 @@ module _ (s : List ℕ) where
       let c = f.chain in
       let p : c.0 ≡ at + n = omega (arith, g, row-long at c.0 r c.1.0) in
       record {
-        r = r;
-        us = rs;
+        row = r;
+        rest = rs;
         is = refl;
         here = subst (λ (e : ℕ). RowHere s at r e) p c.1.0;
         others = record { chain = subst (λ (e : ℕ). Chain (RowHere s) end rs e) p c.1.1 };

@@ -29,7 +29,7 @@ returns g c = record {
       (c.in_ok-accepted.ensures.counted _ h.holds) _
       c.in_ok-put_total.ensures;
   counted = λ e h. record {
-    all = as-many c.args.sheets.now e.pages h.holds;
-    yes = c.in_ok-accepted.ensures.counted _ h.holds ∙ rw (h.pools, h.tables) refl;
+    sheet-count = as-many c.args.sheets.now e.pages h.holds;
+    accepted-count = c.in_ok-accepted.ensures.counted _ h.holds ∙ rw (h.pools, h.tables) refl;
   };
 }

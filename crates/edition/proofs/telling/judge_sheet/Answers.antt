@@ -13,9 +13,9 @@ returns-in-Set c =
     record {
       found = λ p h.
           let k = rw c.in-Set.is at h.holds in
-          found-set t ws _ k.0 k.1.1.0 _ _ p k.1.0
-          (c.of.ensures.found _ (solvedSet t ws) (rw c.deref.ensures.value at x.answered.stands) (numbersOf t) k.0
-          (placed-same t ws _ k.0 k.1.1.0 _ (rw c.deref.ensures.value at x.judged.placed)));
+          found-set t ws _ k.cs k.kept _ _ p k.is-set
+          (c.of.ensures.found _ (solvedSet t ws) (rw c.deref.ensures.value at x.answered.stands) (numbersOf t) k.cs
+          (placed-same t ws _ k.cs k.kept _ (rw c.deref.ensures.value at x.judged.placed)));
       there = c.of.ensures.there _ _ x.answered.stands;
     }
 

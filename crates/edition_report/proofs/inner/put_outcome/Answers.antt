@@ -26,7 +26,7 @@ returns-in-Stops g c = λ f h. rw (rw c.in-Stops.is at h) (c.put_stopped.ensures
 pub returns-in_err-put_accepted-in-Agrees : goal.returns-in_err-put_accepted-in-Agrees
 returns-in_err-put_accepted-in-Agrees g c = λ f h.
     let k = rw c.in-Agrees.is at h in
-    rw (k.1.1.0, agrees-text (name_of c.args.names.pool.now c.args.names.table.now) c.args.page.text.now)
+    rw (k.is, agrees-text (name_of c.args.names.pool.now c.args.names.table.now) c.args.page.text.now)
     (cut _ _ c.from_residual.ensures.0 c.in_err-put_accepted-in-Agrees.ensures)
 
 pub overflow_add-bindings : goal.overflow_add-bindings
@@ -38,14 +38,14 @@ put_rows-requires-clause-there g c = solved-there (rw c.in-Agrees.is at c.requir
 pub returns-in_ok-put_accepted-in-Agrees : goal.returns-in_ok-put_accepted-in-Agrees
 returns-in_ok-put_accepted-in-Agrees g c = λ f h.
     let k = rw c.in-Agrees.is at h in
-    let lines = c.put_rows.ensures _ (solved-rows _ _ _ k.0 k.1.0 k.1.1.1) in
-    rw (k.1.1.0, agrees-text (name_of c.args.names.pool.now c.args.names.table.now) c.args.page.text.now)
-    (then _ c.in_ok-put_accepted-in-Agrees.ensures (rw (solved-text (name_of c.args.names.pool.now c.args.names.table.now) k.0 k.1.0) at lines))
+    let lines = c.put_rows.ensures _ (solved-rows _ _ _ k.bs k.ns k.solved) in
+    rw (k.is, agrees-text (name_of c.args.names.pool.now c.args.names.table.now) c.args.page.text.now)
+    (then _ c.in_ok-put_accepted-in-Agrees.ensures (rw (solved-text (name_of c.args.names.pool.now c.args.names.table.now) k.bs k.ns) at lines))
 
 pub returns-in_err-put_remaining-in-Remains : goal.returns-in_err-put_remaining-in-Remains
 returns-in_err-put_remaining-in-Remains g c = λ f h.
     let k = rw c.in-Remains.is at h in
-    rw (k.1.0, remains-text (name_of c.args.names.pool.now c.args.names.table.now) c.args.page.text.now)
+    rw (k.is, remains-text (name_of c.args.names.pool.now c.args.names.table.now) c.args.page.text.now)
     (cut _ _ c.from_residual-in_err-put_remaining-in-Remains.ensures.0 c.in_err-put_remaining-in-Remains.ensures)
 
 pub put_rows-requires-in-Remains-clause-there : goal.put_rows-requires-in-Remains-clause-there
@@ -54,6 +54,6 @@ put_rows-requires-in-Remains-clause-there g c = left-there (rw c.in-Remains.is a
 pub returns-in_ok-put_remaining-in-Remains : goal.returns-in_ok-put_remaining-in-Remains
 returns-in_ok-put_remaining-in-Remains g c = λ f h.
     let k = rw c.in-Remains.is at h in
-    let lines = c.put_rows-in-Remains.ensures _ (left-rows _ k.0 0 _ k.1.1) in
-    rw (k.1.0, remains-text (name_of c.args.names.pool.now c.args.names.table.now) c.args.page.text.now)
-    (then _ c.in_ok-put_remaining-in-Remains.ensures (rw (left-text (name_of c.args.names.pool.now c.args.names.table.now) k.0) at lines))
+    let lines = c.put_rows-in-Remains.ensures _ (left-rows _ k.ds 0 _ k.left) in
+    rw (k.is, remains-text (name_of c.args.names.pool.now c.args.names.table.now) c.args.page.text.now)
+    (then _ c.in_ok-put_remaining-in-Remains.ensures (rw (left-text (name_of c.args.names.pool.now c.args.names.table.now) k.ds) at lines))

@@ -13,13 +13,13 @@ pub type_at-requires : goal.type_at-requires
 type_at-requires g c =
     let w = c.requires.there in
     let y = as_binding c.args.s.now c.args.at c.in-Binding.x w.1.0 (sym c.view_at.ensures ∙ c.in-Binding.is) w.0 w.1.1 in
-    record { near = c.requires.near; there = (y.t, y.holds) }
+    record { near = c.requires.near; there = (y.type, y.holds) }
 
 pub returns-in-Binding : goal.returns-in-Binding
 returns-in-Binding g c =
     λ r e h.
     let y = as_binding c.args.s.now c.args.at c.in-Binding.x e (sym c.view_at.ensures ∙ c.in-Binding.is) r h in
-    rw y.is (rw (c.type_at.ensures y.t y.holds) at c.put_binding.ensures)
+    rw y.is (rw (c.type_at.ensures y.type y.holds) at c.put_binding.ensures)
 
 pub returns-in-Bound : goal.returns-in-Bound
 returns-in-Bound g c =
@@ -33,11 +33,11 @@ constraint_at-requires g c =
     let d = c.in_default in
     let y = as_left c.args.s.now c.args.at w.1.0 (λ x p. d.not-Binding x (c.view_at.ensures ∙ p))
     (λ o p. d.not-Bound o (c.view_at.ensures ∙ p)) w.0 w.1.1 in
-    record { near = c.requires.near; there = (y.c, y.holds) }
+    record { near = c.requires.near; there = (y.constraint, y.holds) }
 
 pub returns-in_default : goal.returns-in_default
 returns-in_default g c =
     λ r e h.
     let d = c.in_default in
     let y = as_left c.args.s.now c.args.at e (λ x p. d.not-Binding x (c.view_at.ensures ∙ p)) (λ o p. d.not-Bound o (c.view_at.ensures ∙ p)) r h in
-    rw y.is (rw (c.constraint_at.ensures y.c y.holds) at c.put_left.ensures)
+    rw y.is (rw (c.constraint_at.ensures y.constraint y.holds) at c.put_left.ensures)

@@ -16,7 +16,7 @@ put_row-requires-clause-there g c =
     let w = c.requires.there in
     let h = c.loop-at.invariant w.0 w.1 in
     let y = first c.args.s.now c.loop-at.at c.args.end _ c.loop-at-test.true refl h.others h.follow in
-    (y.r, (_, y.here))
+    (y.row, (_, y.here))
 
 pub returns-in_err-put_row : goal.returns-in_err-put_row
 unfolding collect
@@ -24,7 +24,7 @@ returns-in_err-put_row g c =
     λ rs f.
     let h = c.loop-at.invariant rs f in
     let y = first c.args.s.now c.loop-at.at c.args.end _ c.loop-at-test.true refl h.others h.follow in
-    rw (h.is, y.is) (then _ h.puts (cut _ _ c.from_residual.ensures.0 (c.in_err-put_row.ensures y.r _ y.here)))
+    rw (h.is, y.is) (then _ h.puts (cut _ _ c.from_residual.ensures.0 (c.in_err-put_row.ensures y.row _ y.here)))
 
 pub overflow_add-at : goal.overflow_add-at
 overflow_add-at g c =
@@ -47,13 +47,13 @@ loop-at-preserved g c =
     let names = name_of c.args.names.pool.now c.args.names.table.now in
     let h = c.loop-at.invariant rs f in
     let y = first c.args.s.now c.loop-at.at c.args.end c.length_at-at.result c.loop-at-test.true c.length_at-at.ensures h.others h.follow in
-    let e : collect (rowText names) h.others ≡ rowText names y.r ++ collect (rowText names) y.us = ap (collect (rowText names)) y.is in
+    let e : collect (rowText names) h.others ≡ rowText names y.row ++ collect (rowText names) y.rest = ap (collect (rowText names)) y.is in
     record {
-      front = h.front ++ rowText names y.r;
-      others = y.us;
-      is = h.is ∙ ap (h.front ++◌) e ∙ sym (append_assoc h.front (rowText names y.r) (collect (rowText names) y.us));
+      front = h.front ++ rowText names y.row;
+      others = y.rest;
+      is = h.is ∙ ap (h.front ++◌) e ∙ sym (append_assoc h.front (rowText names y.row) (collect (rowText names) y.rest));
       follow = y.others;
-      puts = then _ h.puts (c.in_ok-put_row.ensures y.r _ y.here);
+      puts = then _ h.puts (c.in_ok-put_row.ensures y.row _ y.here);
     }
 
 pub returns : goal.returns
