@@ -2,7 +2,7 @@
 use Rattle.std.specs.Prelude.{◌≡◌, refl, Bool, true, false, ◌||◌, List, [], ◌∷◌, map, ℕ, zero, suc, ◌<◌, eqb}
 use Rattle.std.proofs.Common.{sym, ap, ◌∙◌, true≢false, arith}
 use Prim.Native.Char.{Char, code}
-use Rattle.std.proofs.lemmas.Bool.{eqb-false}
+use Rattle.std.proofs.lemmas.Bool.{eqb-false, or_parts}
 use Rattle.rules.specs.Names.{Bytes}
 use Rattle.rules.specs.Trees.{var, par, boolean, string, datetime}
 use Rattle.rules.specs.Grammar.{here, bad, Rule, column, columnOf, pick, TyAt, deepAt, opened, dimension, keyword, function, listed}
@@ -54,14 +54,6 @@ module _ {P : TyAt → Type 0} {line : Bytes} {s r : Point} (d : ℕ) where
 -- ══ A byte of no type ══
 
 -- the byte of no type: no rule fits
-not_left : (a b : Bool) → (a || b) ≡ false → a ≡ false
-not_left true b e = absurd (true≢false e)
-not_left false b e = refl
-
-not_right : (a b : Bool) → (a || b) ≡ false → b ≡ false
-not_right true b e = absurd (true≢false e)
-not_right false b e = e
-
 pub data Fits (b : ℕ) : List (Char × Rule TyAt) → List Char → Type 0 where
   none : Fits b [] []
   one : {xs : List (Char × Rule TyAt)} {cs : List Char} (c : Char) (R : Rule TyAt) → Fits b xs cs → Fits b ((c, R) ∷ xs) (c ∷ cs)
@@ -69,7 +61,8 @@ pub data Fits (b : ℕ) : List (Char × Rule TyAt) → List Char → Type 0 wher
 no-rule : (b : ℕ) (xs : List (Char × Rule TyAt)) (cs : List Char) → Fits b xs cs → among b cs ≡ false → pick b xs ≡ (λ p. bad (columnOf p))
 no-rule b xs cs none e = refl
 no-rule b xs cs (one {xs = ys} {cs = ds} c R f) e =
-    pick_other b (c, R) ys (eqb-false b (code c) (not_left (eqb b (code c)) (among b ds) e)) ∙ no-rule b ys ds f (not_right (eqb b (code c)) (among b ds) e)
+    let parts = or_parts (eqb b (code c)) (among b ds) e in
+    pick_other b (c, R) ys (eqb-false b (code c) parts.0) ∙ no-rule b ys ds f parts.1
 
 pub by-none : {P : TyAt → Type 0} {line : Bytes} {s : Point} (d : ℕ) → among (byte_of line s) heads ≡ false → P (deepAt 0)
     → Reads line s (ruled d) P (refusedFrom s)
@@ -103,8 +96,8 @@ deep-pick b (c ∷ cs) e = go (eqb b (code c)) e (deep-pick b cs)
 no-deep-rule : (b : ℕ) (cs : List Char) → among b cs ≡ false → pick b (deepOf cs) ≡ (λ p. bad (columnOf p))
 no-deep-rule b [] e = refl
 no-deep-rule b (c ∷ cs) e =
-    pick_other b (c, tooDeep) (deepOf cs) (eqb-false b (code c) (not_left (eqb b (code c)) (among b cs) e))
-    ∙ no-deep-rule b cs (not_right (eqb b (code c)) (among b cs) e)
+    let parts = or_parts (eqb b (code c)) (among b cs) e in
+    pick_other b (c, tooDeep) (deepOf cs) (eqb-false b (code c) parts.0) ∙ no-deep-rule b cs parts.1
 
 head-some : (b : ℕ) → among b heads ≡ true → 0 < b
 head-some zero e = absurd (true≢false (sym e))

@@ -5,6 +5,7 @@ use Rattle.std.proofs.Common.{sym, ap, ap₂, ◌∙◌, mul-one, one-mul, div-l
 use Rattle.std.proofs.Math.Nat.{mul-div_cancel'}
 use borrow.Author.Tests.{leb-true, leb-false, le-leb, lt-leb, lt-ltb}
 use Rattle.std.proofs.Math.Dec.{leb}
+use Rattle.std.proofs.Math.Bool.{and-false}
 use Rattle.rules.specs.Base.{Got, got, refused, bounded}
 use Rattle.rules.specs.Exponents.{Exp, frac, lowest, gcd, top, in_range, goodExp, mul, inverted, times, quotient}
 use Rattle.rules.specs.Writing.{signed, by_sign}
@@ -30,10 +31,6 @@ divided : (n d : ℕ) → 0 < d → in_range (lowest (pos n) d) ≡ true → quo
 unfolding quotient inverted times mul
 divided n zero e r = absurd (omega arith)
 divided n (suc m) e r = rw (mul-one n, one-mul (suc m), r)
-
-no-and : (b : Bool) → (b && false) ≡ false
-no-and true = refl
-no-and false = refl
 
 pub word_good : {n : ℕ} {a : Exp} → n ≤ top → a ≡ frac (signed n) 1 → goodExp a ≡ true
 word_good {n} {a} h e = ap goodExp (e ∙ ap (λ (z : ℤ). frac z 1) (signed-small n h)) ∙ whole-good n h
@@ -89,11 +86,11 @@ module _ (m : Bool) (n d : ℕ) where
 
   pub value-zero : d < 1 → value_of m n d ≡ refused 7
   unfolding in_range
-  value-zero h = rw (lt-leb 1 d h, no-and (leb (nat_abs (signedBy m n)) top))
+  value-zero h = rw (lt-leb 1 d h, and-false (leb (nat_abs (signedBy m n)) top))
 
   pub value-under : top < d → value_of m n d ≡ refused 7
   unfolding in_range
-  value-under h = rw (lt-leb d top h, no-and (leb (nat_abs (signedBy m n)) top && leb 1 d))
+  value-under h = rw (lt-leb d top h, and-false (leb (nat_abs (signedBy m n)) top && leb 1 d))
 
   pub value_there : n ≤ top → 0 < d → d ≤ top → value_of m n d ≡ got (lowest (signedBy m n) d)
   unfolding in_range

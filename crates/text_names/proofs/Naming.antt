@@ -4,6 +4,7 @@ use Rattle.std.proofs.Math.Path.{refl, ap}
 use Rattle.std.proofs.Common.{sym, subst, ◌∙◌, arith, take_at}
 use Rattle.std.proofs.lemmas.Bool.{lt-leb}
 use Rattle.std.proofs.lemmas.List.Edits.{sets-eq}
+use Rattle.std.proofs.Math.Bool.{and-false}
 use Rattle.rules.specs.Base.{need}
 use Rattle.rules.specs.Names.{Bytes, Entered, enterChecked}
 use Rattle.rules.specs.Writing.{words}
@@ -50,11 +51,7 @@ front_of {line} {at} {i} {long} {d} {d'} r h = record { count = r.count; before 
 -- a name of over 48 bytes
 pub too_long : (pool table : List ℕ) (n : Bytes) → 48 < length n → entered (Err NameLength) pool table ≡ enterName pool table n
 unfolding enterName enterChecked
-too_long pool table n h = rw (lt-leb (length n) 48 h, no-and (leb 1 (length n)))
-  where
-    no-and : (b : Bool) → (b && false) ≡ false
-    no-and true = refl
-    no-and false = refl
+too_long pool table n h = rw (lt-leb (length n) 48 h, and-false (leb 1 (length n)))
 
 -- ══ A name, read and entered ══
 
