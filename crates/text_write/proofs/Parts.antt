@@ -26,6 +26,8 @@ use Rattle.rules.specs.WellFormed.{goodCon}
 use Rattle.laws.proofs.NameTable.{held-is}
 use Rattle.text_write.specs.Parts.{atomText, star, fromFactors, comma, bracket, fromTys, label, fromFields, head, between, named}
 
+-- ══ Factors and dimensions ══
+
 pub factor-text : (names : ℕ → Bytes) (a : Atom ℕ) (e : Exp) → factorText names (a ↑ e) ≡ atomText names a ++ powerText e
 unfolding factorText atomText
 factor-text names (free o) e = refl
@@ -45,6 +47,8 @@ next-factor false names f p = refl
 pub dimension-is : (names : ℕ → Bytes) (p : Product ℕ) → dimensionText names p ≡ ascii "[" ++ (fromFactors true names p ++ ascii "]")
 unfolding fromFactors dimensionText
 dimension-is names p = refl
+
+-- ══ Brackets, types and fields ══
 
 pub no_bracket : (n b : ℕ) → n ≡ 0 → bracket n b ≡ []
 no_bracket zero b e = refl
@@ -111,6 +115,8 @@ module _ (names : ℕ → Bytes) where
       ∙ sym (append_assoc (fromTys true names ps) (bracket (count ps) 62) behind))
       ∙ ap (λ (u : Bytes). 64 ∷ (nameText (names x) ++ u)) (sym (append_assoc (bracket (count ps) 60) (fromTys true names ps ++ bracket
       (count ps) 62) behind))))
+
+-- ══ Lines ══
 
 pub has-text : (names : ℕ → Bytes) (x : ℕ) (t u : Ty ℕ) → conText names (hasField x t u)
     ≡ ascii "HasField(" ++ (tyText names t ++ (named (names x) ++ (tyText names u ++ ascii ")")))

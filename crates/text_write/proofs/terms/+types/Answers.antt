@@ -9,6 +9,8 @@ use Rattle.text_write.specs.Parts.{fromTys}
 use Rattle.text_write.proofs.Parts.{next_fields, next_types, no_fields, no_types, struct_text}
 use Rattle.text_write.proofs.terms.+types.Goals as goal
 
+-- ══ write_fields ══
+
 pub write_fields-returns-in_default : goal.write_fields-returns-in_default
 write_fields-returns-in_default g t c = rw (← c.in_default.ensures, no_fields) (nothing _)
 
@@ -34,6 +36,8 @@ write_fields-write_fields-requires g t c κs within =
 pub write_fields-returns : goal.write_fields-returns
 write_fields-returns g t c = rw (← c.in-Some.ensures, next_fields) (then _ c.in_ok-put_label.ensures (then _ c.in_ok-write_type.ensures c.write_fields.ensures))
 
+-- ══ write_types ══
+
 pub write_types-returns-in_default : goal.write_types-returns-in_default
 write_types-returns-in_default g t c = rw (← c.in_default.ensures, no_types) (nothing _)
 
@@ -58,6 +62,8 @@ write_types-write_types-requires g t c κs within =
 
 pub write_types-returns : goal.write_types-returns
 write_types-returns g t c = rw (← c.in-Some.ensures, next_types) (then _ c.in_ok-put_comma.ensures (then _ c.in_ok-write_type.ensures c.write_types.ensures))
+
+-- ══ write_type ══
 
 pub write_type-write_function-requires : goal.write_type-write_function-requires
 unfolding size
@@ -100,6 +106,8 @@ write_type-returns-in-Struct g t c =
 pub write_type-returns-in-List : goal.write_type-returns-in-List
 write_type-returns-in-List g t c = rw (← c.in-List.ensures) c.write_list.ensures
 
+-- ══ write_function ══
+
 pub write_function-returns-in_err-put : goal.write_function-returns-in_err-put
 unfolding tyText fromTys
 write_function-returns-in_err-put g t c = cut _ _ c.from_residual.ensures.0 c.in_err-put.ensures
@@ -131,6 +139,8 @@ unfolding tyText fromTys
 write_function-returns g t c =
     then _ c.in_ok-put.ensures (then _ c.in_ok-write_types.ensures (then _ c.in_ok-put-2.ensures (then _ c.in_ok-write_type.ensures c.put-3.ensures)))
 
+-- ══ write_struct ══
+
 pub write_struct-returns-in_err-put_head : goal.write_struct-returns-in_err-put_head
 write_struct-returns-in_err-put_head g t c =
     cut _ _ c.from_residual.ensures.0 c.in_err-put_head.ensures
@@ -159,6 +169,8 @@ pub write_struct-returns : goal.write_struct-returns
 write_struct-returns g t c =
     then _ c.in_ok-put_head.ensures (then _ c.in_ok-write_types.ensures (then _ c.in_ok-put_between.ensures
     (then _ c.in_ok-write_fields.ensures c.put_if.ensures)))
+
+-- ══ write_list ══
 
 pub write_list-returns-in_err-put : goal.write_list-returns-in_err-put
 unfolding tyText
