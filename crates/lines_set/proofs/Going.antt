@@ -19,6 +19,8 @@ use Rattle.lines_set.specs.Deeds.{deedOf, takenBy}
 use Rattle.lines_set.proofs.OnDeeds.{took}
 use Rattle.lines_set.specs.declared.deeds.Deed as code
 
+-- ══ The stack ══
+
 whole-stack : (stack : List ℕ) (p m : ℕ) → length stack ≤ p + m → take m (drop p stack) ≡ drop p stack
 whole-stack stack p m h = take_all m (drop p stack) (omega (arith, length-drop p stack))
 
@@ -32,6 +34,8 @@ in-place stack p m s deed n h = omega (
   length-drop p stack,
   h,
 )
+
+-- ══ The constraints of one step, and of those behind it ══
 
 module _ (ν : Names ℕ) where
   none-left : (vs st : List ℕ) → constraints ν vs st [] ≡ []
@@ -56,6 +60,8 @@ module _ (ν : Names ℕ) where
   module _ (list : List Step) (lent : List ℕ) where
     abbrev steps : ℕ → List (LineStep ℕ)
     steps i = map stepOf (drop i list)
+
+    -- ══ What is still to be written ══
 
     -- what is still to be written behind w makes the whole line from w₀ on
     abbrev pub Still : Writer → Writer → List ℕ → ℕ → ℕ → Type 0
