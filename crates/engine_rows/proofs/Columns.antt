@@ -19,6 +19,8 @@ use Rattle.std.proofs.lemmas.Bool.{leb-true, le-leb, lt-leb}
 use Rattle.std.proofs.Math.Dec.{leb}
 use Rattle.engine_rows.specs.Columns.{basesView, basesFrom, basesIn, vars, pars, bases, listed, headed}
 
+-- ══ Names listed, one kind after another ══
+
 module _ (s : List ℕ) (i e : ℕ) where
   pub bases-none : e ≤ i → basesIn s i e ≡ []
   unfolding basesFrom
@@ -41,6 +43,8 @@ over-front xs before n e = rw e (take-append_seam xs (drop (length xs) before))
 either-many : {A : Type 0} (b : Bool) (m : Got A) → (need b 8 >>= λ _. need false 8 >>= λ _. m) ≡ refused 8
 either-many true m = refl
 either-many false m = refl
+
+-- ══ At most 24 of them ══
 
 module _ (ν : Names ℕ) (s : List ℕ) (e : ℕ) where
   pub too-many : (24 < length (vars ν s e)) ⊎ (24 < length (pars ν s e) + length (bases ν s e)) → listed ν s e ≡ refused 8
