@@ -75,7 +75,7 @@ module _ (p t set : List ℕ) (v : Vec ℕ Global) where
   pub lines-true : Words32 v.items → (m : Sheet) → Kept p t (Ok v) m → (x : Verdict) → said x ≡ saidOf (verified p t set v.items) → LinesAreTrue set m x
   lines-true w (sheet ds s) h x e = λ i. record {
     ds = ds;
-    s = s;
+    ended = s;
     read = refl;
     proves = rw (h.is, h.pools, h.tables) at (verified-true p t set v.items w (was-yes (verified p t set v.items) (sym e ∙ ap said i)));
   }
@@ -94,13 +94,13 @@ module _ (text lines p t : List ℕ) (v : Vec ℕ Global) where
       go : (m : Sheet) → sheetRead noPool noTable text ≡ m → Kept p t (Ok v) m → Lines v.items (sheetRead p t lines) → AllTrue text lines
       go (sheet cs s) q h l =
           let proved = l.proves in
-          let same-cs = read-back noPool noTable text q (table_of l.s.pool l.s.table) proved.cs (rw h.is at proved.read) in
-          let same-ds = read-back p t lines l.read (table_of l.s.pool l.s.table) proved.ds proved.certified in
+          let same-cs = read-back noPool noTable text q (table_of l.ended.pool l.ended.table) proved.cs (rw h.is at proved.read) in
+          let same-ds = read-back p t lines l.read (table_of l.ended.pool l.ended.table) proved.ds proved.certified in
           record {
             cs = cs;
             ds = l.ds;
             behind = s;
-            all = l.s;
+            ended = l.ended;
             sheet-read = q;
             lines-read = rw (h.pools, h.tables) at l.read;
             solves = rw (same-cs, same-ds) at proved.solves;

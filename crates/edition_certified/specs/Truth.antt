@@ -16,9 +16,9 @@ use Rattle.edition_certified.specs.declared.Verdict.TheVariants as verdict
 -- the lines were read, and make the set true
 pub record Lines (set : List ℕ) (m : Sheet) : Type 0 where
   pub ds : List (Con ℕ)
-  pub s : Sofar
-  pub read : m ≡ sheet ds s
-  pub proves : Verified s.pool s.table set (words (collect writeCon ds))
+  pub ended : Sofar
+  pub read : m ≡ sheet ds ended
+  pub proves : Verified ended.pool ended.table set (words (collect writeCon ds))
 
 abbrev pub LinesAreTrue : List ℕ → Sheet → Verdict → Type 0
 LinesAreTrue set m v = v ≡ verdict.Verified → Lines set m
@@ -29,10 +29,10 @@ pub record AllTrue (text lines : Bytes) : Type 0 where
   pub cs : List (Con ℕ)
   pub ds : List (Con ℕ)
   pub behind : Sofar
-  pub all : Sofar
+  pub ended : Sofar
   pub sheet-read : sheetRead noPool noTable text ≡ sheet cs behind
-  pub lines-read : sheetRead behind.pool behind.table lines ≡ sheet ds all
-  pub solves : Solves (numbersOf (table_of all.pool all.table)) cs (bindingsIn ds) (boundNames ds)
+  pub lines-read : sheetRead behind.pool behind.table lines ≡ sheet ds ended
+  pub solves : Solves (numbersOf (table_of ended.pool ended.table)) cs (bindingsIn ds) (boundNames ds)
 
 abbrev pub TextIsTrue : Bytes → Bytes → Verdict → Type 0
 TextIsTrue text lines v = v ≡ verdict.Verified → AllTrue text lines

@@ -44,7 +44,7 @@ pub fn judge_records(
     set: &[u32],
     lines: &[u32],
 ) -> Result<Verdict, AllocError>
-    ensures is { IfOk result (λ v. said v ≡ saidOf (verified pool.now table.now set.now lines.now)) }
+    ensures answer { IfOk result (λ v. said v ≡ saidOf (verified pool.now table.now set.now lines.now)) }
     ensures words { Words32 lines.now }
 {
     match verify(alloc, pool, table, set, lines)? {
@@ -63,7 +63,7 @@ pub fn judge_lines(
     lines: &[u8],
 ) -> Result<Verdict, AllocError>
     requires { Good pool.old table.old }
-    ensures is { IfOk result (λ v. said v ≡ linesSaid set.now (sheetRead pool.old table.old lines.now)) }
+    ensures answer { IfOk result (λ v. said v ≡ linesSaid set.now (sheetRead pool.old table.old lines.now)) }
     ensures truth { IfOk result (LinesAreTrue set.now (sheetRead pool.old table.old lines.now)) }
 {
     match read_over(alloc, pool, table, lines)? {
@@ -74,7 +74,7 @@ pub fn judge_lines(
 
 /// What is said to the texts of a sheet and of lines.
 pub fn judge_text(alloc: Global, text: &[u8], lines: &[u8]) -> Result<Verdict, AllocError>
-    ensures is { IfOk result (λ v. said v ≡ textSaid lines.now (sheetRead noPool noTable text.now)) }
+    ensures answer { IfOk result (λ v. said v ≡ textSaid lines.now (sheetRead noPool noTable text.now)) }
     ensures truth { IfOk result (TextIsTrue text.now lines.now) }
 {
     let mut pool = [0u8; POOL_BYTES];

@@ -50,7 +50,7 @@ pub fn certify(
     text: &[u8],
     lines: &[u8],
 ) -> Result<Verdict, AllocError>
-    ensures is { IfOk result (λ v. said v ≡ certified digest.now text.now lines.now) }
+    ensures answer { IfOk result (λ v. said v ≡ certified digest.now text.now lines.now) }
     ensures truth { IfOk result (VerifiedIsTrue digest.now text.now lines.now) }
 {
     if !has_digest(text, digest) {
