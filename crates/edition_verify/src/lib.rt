@@ -95,7 +95,7 @@ fn find<'e>(entries: &'e [Entry], name: &[u8]) -> Option<&'e Entry>
 // What is said of a file by what is kept of it.
 #[tactic(auto, unfolding(crate::specs::Files::had))]
 fn judge_by(alloc: Global, entry: &Entry, file: &File) -> Result<Answer, AllocError>
-    ensures is { IfOk result (λ a. word a ≡ wordBy entry.now (had file.now).1) }
+    ensures answer { IfOk result (λ a. word a ≡ wordBy entry.now (had file.now).1) }
     ensures truth { IfOk result (λ a. isYes (word a) ≡ true → CertifiedBy entry.now (had file.now).1) }
 {
     match file.text {
@@ -107,7 +107,7 @@ fn judge_by(alloc: Global, entry: &Entry, file: &File) -> Result<Answer, AllocEr
 // What is said of a file.
 #[tactic(auto, unfolding(crate::specs::Files::had, crate::specs::Verifying::wordOf))]
 fn judge(alloc: Global, entries: &[Entry], file: &File) -> Result<Answer, AllocError>
-    ensures is { IfOk result (λ a. word a ≡ wordOf entries.now (had file.now)) }
+    ensures answer { IfOk result (λ a. word a ≡ wordOf entries.now (had file.now)) }
     ensures truth { OnOk result (YesIsTrue entries.now (had file.now)) }
 {
     let name = written_name(alloc, file.name)?;
@@ -223,7 +223,7 @@ fn tell_file(
     out: &mut Vec<u8>,
 ) -> Result<bool, AllocError>
     ensures told { OnOk result (out.new.items ≡ out.old.items ++ fileText entries.now (had file.now)) }
-    ensures is { IfOk result (λ b. b ≡ isYes (wordOf entries.now (had file.now))) }
+    ensures answer { IfOk result (λ b. b ≡ isYes (wordOf entries.now (had file.now))) }
     ensures truth { OnOk result (YesIsTrue entries.now (had file.now)) }
 {
     let answer = judge(alloc, entries, file)?;
@@ -282,7 +282,7 @@ fn tell_other(
     out: &mut Vec<u8>,
 ) -> Result<bool, AllocError>
     ensures told { OnOk result (out.new.items ≡ out.old.items ++ otherText (files_of files.now) entry.now) }
-    ensures is { IfOk result (λ b. b ≡ isNamed (files_of files.now) entry.now) }
+    ensures answer { IfOk result (λ b. b ≡ isNamed (files_of files.now) entry.now) }
 {
     if is_named(alloc, files, entry)? {
         return Ok(true);

@@ -10,7 +10,7 @@ use Rattle.edition_verify.proofs.tell_files.Goals as goal
 pub loop-file-preserved : goal.loop-file-preserved
 loop-file-preserved c = (
   rw (yes_counts _ c.from-verified.ensures) (file-told c.args.entries.now c.args.files.now c.args.out.now.items c.loop-file.file-index c.loop-file.verified _ _
-      c.loop-file-test.true refl c.loop-file.invariant.0 c.in_ok-yes.yes c.in_ok-yes.ensures.is c.in_ok-yes.ensures.told),
+      c.loop-file-test.true refl c.loop-file.invariant.0 c.in_ok-yes.yes c.in_ok-yes.ensures.answer c.in_ok-yes.ensures.told),
   every-more (YesIsTrue c.args.entries.now) c.args.files.now c.loop-file.file-index _ _ c.loop-file-test.true refl c.in_ok-yes.ensures.truth
       c.loop-file.invariant.1,
 )
