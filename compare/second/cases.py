@@ -133,9 +133,22 @@ class Makes:
         count = self.rng.randint(0, most)
         if style < 0.2:
             return [("scalar", self.dim()) for _ in range(count)]
+        if style > 0.93 and len(self.vars) > 1:
+            return self.cancelling()
         if style < 0.3:
             return [self.rng.choice([("scalar", self.dim()), ("equal", self.dim(), self.dim())]) for _ in range(count)]
         return [self.constraint(self.rng.choice([0, 1, 2, 2, 3])) for _ in range(count)]
+
+    def cancelling(self):
+        """As K10: a variable that vanishes from a product, and is then something else; the judge may say no."""
+        rng = self.rng
+        x = self.var()
+        one, two = self.factors(), self.factors()
+        shared = tuple(factor for factor in one if factor[:2] != (VARIABLE, x)) + ((VARIABLE, x, 1, 1),)
+        other = tuple(factor for factor in two if factor[:2] != (VARIABLE, x)) + ((VARIABLE, x, 1, 1),)
+        sides = [("dim", tuple(sorted(side, key=factor_order(self.names)))) for side in (shared, other)]
+        late = rng.choice([("equal", ("var", x), self.type(1)), ("equal", ("list", ("var", x)), ("list", BOOL)), self.constraint()])
+        return [("equal", *sides), late] + [self.constraint(1) for _ in range(rng.choice([0, 0, 1]))]
 
     def bindings(self, most=4):
         return [(self.var(), self.type(self.rng.choice([0, 0, 1, 2]))) for _ in range(self.rng.randint(0, most))] if self.names else []

@@ -278,8 +278,36 @@ def large_line(rng):
     return faults(rng, given, ["steps", "types", "lines", "names"], 0.05)
 
 
+def chosen_line(rng):
+    """Choices between open types, for the solver's and the judge's refusals: 5, 6, 7 and 11."""
+    makes = Makes(rng, 5)
+    held = len(makes.names)
+    count = rng.choice([1, 1, 2, 3])
+    types, places, steps = list(write_type(BOOL)), [], []
+    for i in range(count):
+        one = ("struct", 0, tuple(makes.type(1) for _ in range(rng.choice([1, 2, 3]))), ())
+        other = makes.like(one)
+        if rng.random() < 0.4:  # a quotient that cancels, and then something else for its variable
+            x, y = makes.var(), makes.var()
+            if x != y:
+                quotient = tuple(sorted([(VARIABLE, x, 1, 1), (VARIABLE, y, -1, 1)], key=factor_order(makes.names)))
+                one = ("struct", 0, (("dim", quotient), ("list", ("var", y))), ())
+                other = ("struct", 0, (("dim", ()), ("list", rng.choice([BOOL, makes.type(1)]))), ())
+        steps += [[1, 0, 0, 0]] if i == 0 or rng.random() < 0.5 else []
+        for side in (one, other):
+            steps.append([2, len(places), 0, 0])
+            places.append(len(types) // 4)
+            types += write_type(side)
+        steps.append([9, 0, 0, 0])
+    lent = [b"t%02d" % i for i in range(len(steps))]
+    makes.names = makes.names + lent
+    given = standard(rng, makes, ("result", "work"))
+    given.update(steps=words([word for step in steps for word in step]), types=words(types), lines=words(places), names=words(range(held, held + len(lent))))
+    return faults(rng, given, ["steps", "types", "lines", "names"], 0.05)
+
+
 def any_line(rng):
-    return (well_typed if rng.random() < 0.6 else large_line)(rng)
+    return rng.choice([well_typed, well_typed, chosen_line, chosen_line, large_line])(rng)
 
 
 def large_scheme(rng, key="scheme"):
