@@ -2,7 +2,7 @@
 use Rattle.std.proofs.Math.Path.{◌≡◌, refl, sym, ap, ap₂}
 use Rattle.std.proofs.Common.{◌∙◌}
 use Rattle.std.specs.Prelude.{Bool, ◌&&◌, ◌||◌, length}
-use Rattle.std.proofs.Math.Bool.{true, false, not, and-false}
+use Rattle.std.proofs.Math.Bool.{true, false, not, and-false, and-true}
 use mathlib.Core.List.{List, [], ◌∷◌}
 use Prim.Native.Nat.{suc}
 use Rattle.rules.specs.Base.{any, keep}
@@ -98,10 +98,6 @@ as-many (n ∷ ns) ms d e h =
     let there : Among n ms ≡ true = sym (h n) ∙ ap (◌|| Among n ns) (same-same n) in
     ap suc (as-many ns (without n ms) (rest-distinct n ns d) (distinct-without n ms e) (λ m. left m)) ∙ sym (one-fewer n ms e there)
   where
-    only-then : (b : Bool) → (b && true) ≡ b
-    only-then true = refl
-    only-then false = refl
-
     left : (m : Bytes) → Among m ns ≡ Among m (without n ms)
     left m = go (sameBytes m n) refl
       where
@@ -110,4 +106,4 @@ as-many (n ∷ ns) ms d e h =
 
         go : (b : Bool) → sameBytes m n ≡ b → Among m ns ≡ Among m (without n ms)
         go true i = ap (λ (x : Bytes). Among x ns) (same-is m n i) ∙ first-apart n ns d ∙ sym (whole true i)
-        go false i = sym (whole false i ∙ only-then (Among m ns))
+        go false i = sym (whole false i ∙ and-true (Among m ns))

@@ -2,7 +2,7 @@
 use Rattle.std.proofs.Math.Path.{◌≡◌, refl, sym, ap, ap₂}
 use Rattle.std.proofs.Common.{◌∙◌, zero-add, add-zero, lt-ltb, ltb-true, eqb-true, eq-eqb}
 use Rattle.std.specs.Prelude.{Bool, ◌||◌, length, get_or}
-use Rattle.std.proofs.Math.Bool.{true, false, ◌&&◌, or-true}
+use Rattle.std.proofs.Math.Bool.{true, false, ◌&&◌, or-true, and-false}
 use mathlib.Core.List.{List, [], ◌∷◌}
 use Prim.Native.Nat.{ℕ, zero, suc, ◌+◌, ◌<◌}
 use native.Mathlib.Omega.{arith}
@@ -127,11 +127,7 @@ module _ {pool table : List ℕ} (g : Good pool table) where
       kept-if : (j : ℕ) → j < length names → keeps (table_of pool table).count ws (0 + j) ≡ stands (readBack (table_of pool table) ws) (get_or names j [])
       kept-if j h = ap (keeps (table_of pool table).count ws) (zero-add j) ∙ ap₂ (λ (x y : Bool). x && y) (held j h) (occurs-named j h ws)
 
-      none : (b : Bool) → (b && false) ≡ false
-      none true = refl
-      none false = refl
-
       both : (b : Bool) → stands (readBack (table_of pool table) ws) m ≡ b
           → (Among m names && stands (readBack (table_of pool table) ws) m) ≡ stands (readBack (table_of pool table) ws) m
       both true e = ap (◌&& stands (readBack (table_of pool table) ws) m) (stands-among m ws e)
-      both false e = rw e (none (Among m names))
+      both false e = rw e (and-false (Among m names))
