@@ -2,32 +2,18 @@
 //! each, in order, and a last line for all. docs/EDITION.md says what the report tells, and what the status means.
 #![tactic(auto)]
 
-mod apart;
-mod certificate;
-mod files;
-mod html;
-mod json;
-mod listing;
-mod notes;
-mod options;
-mod output;
-mod structs;
-mod together;
-mod told;
-mod verify;
-mod words;
-
 ghost use Rattle.std.specs.Prelude.{◌≡◌, OnErr};
 
 use anyhow::{Context, Error, Result, anyhow, bail};
 use clap::error::ErrorKind;
 pub use edition_checks::status::Status;
 use edition_checks::status::{Totals, status_of};
-use files::Named;
-use notes::push_shown;
-use options::{Form, Options, command};
+use edition_notes::shown::push_shown;
+use edition_options::options::{Form, Options, command};
+use edition_text::{apart, together, verify};
+use edition_told::files::Named;
+pub use edition_words::Words;
 use std::rt::Files;
-pub use words::Words;
 
 // Checks the sheets of a command line, in the form that was asked for.
 fn check<R: Files + Input + Print + Eprint + AllocGlobal>(
@@ -38,8 +24,8 @@ fn check<R: Files + Input + Print + Eprint + AllocGlobal>(
     match (options.form, options.separate) {
         (Form::Text, false) => together::check(rt, named, options),
         (Form::Text, true) => apart::check(rt, named, options),
-        (Form::Json, _) => json::check(rt, named, options),
-        (Form::Html(path), _) => html::check(rt, named, options, path),
+        (Form::Json, _) => edition_json::check(rt, named, options),
+        (Form::Html(path), _) => edition_page::check(rt, named, options, path),
         (Form::Verified(path), _) => verify::check(rt, path, named),
     }
 }

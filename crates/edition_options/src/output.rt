@@ -9,27 +9,26 @@ use std::{fs, io};
 const CERTIFICATE: &[u8] = b"check_edition certificate ";
 
 /// How a page of HTML begins.
-pub(crate) const PAGE: &str =
-    "<!DOCTYPE html>\n<html lang=\"en\">\n<head>\n<meta charset=\"utf-8\">\n\
+pub const PAGE: &str = "<!DOCTYPE html>\n<html lang=\"en\">\n<head>\n<meta charset=\"utf-8\">\n\
 <meta name=\"viewport\" content=\"width=device-width, initial-scale=1\">\n<title>An edition checked: ";
 
 /// What is written into a file.
 #[derive(Clone, Copy)]
-pub(crate) enum Output<'a> {
+pub enum Output<'a> {
     Certificate(&'a str),
     Page(&'a str),
 }
 
 impl<'a> Output<'a> {
     /// The file.
-    pub(crate) fn path(self) -> &'a str {
+    pub fn path(self) -> &'a str {
         match self {
             Output::Certificate(path) | Output::Page(path) => path,
         }
     }
 
     /// What it is, in words.
-    pub(crate) fn kind(self) -> &'static str {
+    pub fn kind(self) -> &'static str {
         match self {
             Output::Certificate(_) => "certificate",
             Output::Page(_) => "page of this program",
@@ -38,7 +37,7 @@ impl<'a> Output<'a> {
 
     /// May the file be made anew: is it none yet, or empty, or no file proper (a device, a pipe), or does it begin as what is written? An error where that
     /// can't be seen: then something may be there.
-    pub(crate) fn may_be_written<R: Files>(self, rt: &R) -> io::Result<bool> {
+    pub fn may_be_written<R: Files>(self, rt: &R) -> io::Result<bool> {
         match fs::metadata(rt, self.path()) {
             Ok(found) if found.is_file() && 0 < found.len() => self.begins_so(rt),
             Ok(_) => Ok(true),
@@ -48,7 +47,7 @@ impl<'a> Output<'a> {
     }
 
     /// Is the file one of the sheets with these names: by its name, or as the same file by another path?
-    pub(crate) fn is_sheet<R: Files>(self, rt: &R, names: &[&str]) -> bool {
+    pub fn is_sheet<R: Files>(self, rt: &R, names: &[&str]) -> bool {
         let path = self.path();
         let ours = identity(rt, path);
         for name in names {
@@ -62,7 +61,7 @@ impl<'a> Output<'a> {
     }
 
     /// Does standard output go into the file?
-    pub(crate) fn is_report<R: Files>(self, rt: &R) -> bool {
+    pub fn is_report<R: Files>(self, rt: &R) -> bool {
         let ours = identity(rt, self.path());
         ours.is_some() && identity(rt, "/dev/stdout") == ours
     }
@@ -90,7 +89,7 @@ fn identity<R: Files>(rt: &R, path: &str) -> Option<(u64, u64)> {
 }
 
 /// Writes bytes into a file, which is made anew.
-pub(crate) fn write_file<R: Files>(rt: &R, path: &str, bytes: &[u8]) -> io::Result<()> {
+pub fn write_file<R: Files>(rt: &R, path: &str, bytes: &[u8]) -> io::Result<()> {
     let mut file = fs::create(rt, path)?;
     file.write_all(bytes)?;
     file.flush()

@@ -1,8 +1,6 @@
 // What is told of each sheet, for whoever shows it in another form than lines.
 use crate::files::Named;
 use crate::listing::new_names;
-use crate::notes::Notes;
-use crate::options::Options;
 use anyhow::Result;
 use edition::model::{Room, Sheet};
 use edition::telling::tell_sheet;
@@ -11,6 +9,8 @@ use edition_checks::files::{Given, lend};
 use edition_checks::front::Front;
 use edition_checks::status::Totals;
 use edition_checks::tables::Tables;
+use edition_notes::notes::Notes;
+use edition_options::options::Options;
 use edition_report::lines::{constraint_line, line_in};
 use edition_report::pages::Outcome;
 use names::tables::NameTable;
@@ -20,7 +20,7 @@ use std::rt::Files;
 
 /// What is told of an outcome beside its page: in one word, the refusal's number, line and column, and completed rounds.
 #[derive(Clone, Copy)]
-pub(crate) struct Facts {
+pub struct Facts {
     pub finding: &'static str,
     pub refusal: Option<usize>,
     pub line: Option<usize>,
@@ -90,7 +90,7 @@ impl Facts {
 
 /// A line of a sheet: its number, and its bytes.
 #[derive(Drop)]
-pub(crate) struct Line {
+pub struct Line {
     pub number: usize,
     pub text: Vec<u8>,
 }
@@ -98,7 +98,7 @@ pub(crate) struct Line {
 /// What is told of a sheet: its file's name, what became of it, its new names, its page as it would be printed, and the lines that conflict, or the refusal
 /// that was met while they were looked for.
 #[derive(Drop)]
-pub(crate) struct SheetTold {
+pub struct SheetTold {
     pub name: Vec<u8>,
     pub accepted: bool,
     pub facts: Facts,
@@ -108,9 +108,29 @@ pub(crate) struct SheetTold {
     pub why: Result<Vec<Line>, Refusal>,
 }
 
+impl SheetTold {
+    // What became of a sheet, and its page: its new names and the lines that conflict aren't looked for yet.
+    fn of(
+        alloc: Global,
+        sheet: &Sheet,
+        outcome: Outcome,
+        page: Vec<u8>,
+    ) -> Result<SheetTold, AllocError> {
+        Ok(SheetTold {
+            name: Vec::from_slice(alloc, sheet.name)?,
+            accepted: outcome.is_accepted(),
+            facts: Facts::of(outcome, sheet.text),
+            constraints: sheet.content.constraints(),
+            new: Vec::new(alloc),
+            page,
+            why: Ok(Vec::new(alloc)),
+        })
+    }
+}
+
 /// What is told of all sheets that are shown, what they come to, and what is noted.
 #[derive(Drop)]
-pub(crate) struct Report {
+pub struct Report {
     pub sheets: Vec<SheetTold>,
     pub totals: Totals,
     pub notes: Notes,
@@ -135,31 +155,50 @@ impl Report {
         let names = tables.names()?;
         let mut first = 0u32;
         for sheet in &sheets {
-            let mut page = Vec::new(alloc);
-            let outcome = tell_sheet(names, Shown::All, sheet, &mut self.room, &mut page)?;
-            let why = if options.is_why_told() {
-                conflict_lines(alloc, names, sheet, outcome, &mut self.room)?
-            } else {
-                Ok(Vec::new(alloc))
-            };
-            if options.how.shown == Shown::All || !outcome.is_accepted() {
-                self.sheets.push(SheetTold {
-                    name: Vec::from_slice(alloc, sheet.name)?,
-                    accepted: outcome.is_accepted(),
-                    facts: Facts::of(outcome, sheet.text),
-                    constraints: sheet.content.constraints(),
-                    new: names_from(alloc, names, sheet, first)?,
-                    page,
-                    why,
-                })?;
-            }
+            let accepted = self.add_sheet(names, sheet, first, options)?;
             first = first.saturating_add(new_names(sheet));
-            self.totals = self
-                .totals
-                .and(outcome.is_accepted() as usize, tables.count(), 0);
+            self.totals = self.totals.and(accepted as usize, tables.count(), 0);
         }
         self.notes.add(names, &files)?;
         self.totals.notes = self.notes.count;
+        Ok(())
+    }
+
+    // Adds what is told of a sheet, whose new names have the numbers from `first` on, if it is shown: is it accepted?
+    fn add_sheet(
+        &mut self,
+        names: NameTable,
+        sheet: &Sheet,
+        first: u32,
+        options: Options,
+    ) -> Result<bool, AllocError> {
+        let alloc = *self.sheets.allocator();
+        let mut page = Vec::new(alloc);
+        let outcome = tell_sheet(names, Shown::All, sheet, &mut self.room, &mut page)?;
+        if options.shown == Shown::All || !outcome.is_accepted() {
+            let mut told = SheetTold::of(alloc, sheet, outcome, page)?;
+            told.new = names_from(alloc, names, sheet, first)?;
+            if options.is_why_told() {
+                told.why = conflict_lines(alloc, names, sheet, outcome, &mut self.room)?;
+            }
+            self.sheets.push(told)?;
+        }
+        Ok(outcome.is_accepted())
+    }
+
+    // Adds what is told of files each over a name table of its own: each is let go before the next is read.
+    fn add_apart<R: Files + Input + AllocGlobal>(
+        &mut self,
+        rt: &R,
+        named: &Named,
+        options: Options,
+    ) -> Result<()> {
+        let alloc = rt.alloc();
+        let mut front = Front::new(alloc)?;
+        for name in named.names {
+            let given = [named.read(rt, name, &mut front)?];
+            self.add(alloc, &given, options)?;
+        }
         Ok(())
     }
 }
@@ -203,7 +242,7 @@ fn names_from(
 }
 
 /// The lines of a page behind the first that begin with two blanks, without these.
-pub(crate) fn lines_below(alloc: Global, page: &[u8]) -> Result<Vec<&[u8]>, AllocError> {
+pub fn lines_below(alloc: Global, page: &[u8]) -> Result<Vec<&[u8]>, AllocError> {
     let mut lines = Vec::new(alloc);
     for line in page.split(|b| *b == b'\n').skip(1) {
         if let Some(line) = line.strip_prefix(b"  ") {
@@ -214,24 +253,16 @@ pub(crate) fn lines_below(alloc: Global, page: &[u8]) -> Result<Vec<&[u8]>, Allo
 }
 
 /// Reads the files and tells of them: of each by itself, or of all together.
-pub(crate) fn tell<R: Files + Input + AllocGlobal>(
+pub fn tell<R: Files + Input + AllocGlobal>(
     rt: &R,
     named: &Named,
     options: Options,
 ) -> Result<Report> {
-    let alloc = rt.alloc();
-    let mut report = Report::new(alloc);
-    let mut front = Front::new(alloc)?;
-    let mut given = Vec::new(alloc);
-    for name in named.names {
-        given.push(named.read(rt, name, &mut front)?)?;
-        if options.separate {
-            report.add(alloc, &given, options)?;
-            given.clear();
-        }
-    }
-    if !options.separate {
-        report.add(alloc, &given, options)?;
+    let mut report = Report::new(rt.alloc());
+    if options.separate {
+        report.add_apart(rt, named, options)?;
+    } else {
+        report.add(rt.alloc(), &named.read_all(rt)?, options)?;
     }
     Ok(report)
 }

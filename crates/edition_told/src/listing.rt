@@ -9,7 +9,7 @@ use text_spell::put_name;
 use text_spell::sink::Sink;
 
 /// How many new names a sheet has.
-pub(crate) fn new_names(sheet: &Sheet) -> u32 {
+pub fn new_names(sheet: &Sheet) -> u32 {
     u32::try_from(sheet.content.names()).unwrap_or(u32::MAX)
 }
 
@@ -43,7 +43,7 @@ fn put_all<S: Sink>(names: NameTable, sheets: &[Sheet], to: &mut S) -> Result<()
 }
 
 /// Lists the new names of each sheet, which is read once more.
-pub(crate) fn list(alloc: Global, files: &[File]) -> Result<Vec<u8>> {
+pub fn list(alloc: Global, files: &[File]) -> Result<Vec<u8>> {
     let mut tables = Tables::new(alloc)?;
     let mut room = Room::new();
     let sheets = tables.read(alloc, files, &mut room)?;

@@ -1,17 +1,18 @@
-// An edition's report as a page of HTML: one file, with nothing fetched and no script. What comes from a file goes through `Html::text`.
-use crate::files::Named;
-use crate::notes::Notes;
-use crate::options::Options;
-use crate::output::{PAGE, write_file};
-use crate::told::{Line, Report, SheetTold, lines_below, tell};
+//! An edition's report as a page of HTML: one file, with nothing fetched and no script. What comes from a file goes through `Html::text`.
+#![tactic(auto)]
+
 use anyhow::{Context, Result};
 use edition_checks::status::Totals;
 use edition_html::put_text;
+use edition_notes::notes::Notes;
+use edition_options::options::Options;
+use edition_options::output::{PAGE, write_file};
 use edition_report::words::{put_amount, put_refused, put_total};
+use edition_told::files::Named;
+use edition_told::printing::print_whole;
+use edition_told::told::{Facts, Line, Report, SheetTold, lines_below, tell};
 use rules::Refusal;
 use std::alloc::{AllocError, Global};
-use std::io;
-use std::io::{BufWriter, Write};
 use std::rt::Files;
 use std::str::from_utf8;
 use text_spell::sink::Sink;
@@ -152,23 +153,33 @@ impl Html {
         )?;
         self.raw("<th scope=\"col\" class=\"count\">New names</th></tr></thead>\n<tbody>\n")?;
         for (k, sheet) in sheets.iter().enumerate() {
-            self.raw("<tr><th scope=\"row\"><a href=\"#sheet")?;
-            self.number(k)?;
-            self.raw("\">")?;
-            self.text(&sheet.name)?;
-            self.raw("</a></th><td class=\"")?;
-            self.raw(class(sheet.accepted))?;
-            self.raw(if sheet.accepted {
-                "\">accepted</td>"
-            } else {
-                "\">not accepted</td>"
-            })?;
-            self.count(Some(sheet.constraints))?;
-            self.count(sheet.facts.rounds)?;
-            self.count(Some(sheet.new.len()))?;
-            self.raw("</tr>\n")?;
+            self.row(k, sheet)?;
         }
         self.raw("</tbody>\n</table>\n")
+    }
+
+    // A sheet's row in it.
+    fn row(&mut self, k: usize, sheet: &SheetTold) -> Result<(), AllocError> {
+        self.raw("<tr><th scope=\"row\"><a href=\"#sheet")?;
+        self.number(k)?;
+        self.raw("\">")?;
+        self.text(&sheet.name)?;
+        self.raw("</a></th><td class=\"")?;
+        self.raw(class(sheet.accepted))?;
+        self.raw(if sheet.accepted {
+            "\">accepted</td>"
+        } else {
+            "\">not accepted</td>"
+        })?;
+        self.counts(sheet)?;
+        self.raw("</tr>\n")
+    }
+
+    // What is counted of a sheet: constraints, rounds, new names.
+    fn counts(&mut self, sheet: &SheetTold) -> Result<(), AllocError> {
+        self.count(Some(sheet.constraints))?;
+        self.count(sheet.facts.rounds)?;
+        self.count(Some(sheet.new.len()))
     }
 
     // A row with a name and what it is.
@@ -272,36 +283,55 @@ impl Html {
     fn sheet(&mut self, alloc: Global, k: usize, sheet: &SheetTold) -> Result<(), AllocError> {
         self.raw("<section id=\"sheet")?;
         self.number(k)?;
-        self.raw("\">\n<h2>")?;
+        self.raw("\">\n")?;
+        self.heading(sheet)?;
+        self.place(sheet.facts)?;
+        self.body(&lines_below(alloc, &sheet.page)?, sheet)?;
+        self.new_names(&sheet.new)?;
+        self.raw("</section>\n")
+    }
+
+    // A sheet's name and verdict.
+    fn heading(&mut self, sheet: &SheetTold) -> Result<(), AllocError> {
+        self.raw("<h2>")?;
         self.text(&sheet.name)?;
         self.raw("</h2>\n<p class=\"")?;
         self.raw(class(sheet.accepted))?;
         self.raw("\">")?;
         self.text(verdict(sheet))?;
-        self.raw("</p>\n")?;
-        if let Some(line) = sheet.facts.line {
-            self.raw("<p>Line ")?;
-            self.number(line)?;
-            if let Some(column) = sheet.facts.column {
-                self.raw(", column ")?;
-                self.number(column)?;
-            }
-            self.raw(":</p>\n")?;
+        self.raw("</p>\n")
+    }
+
+    // The line that a verdict is of, and the column, where it is of one.
+    fn place(&mut self, facts: Facts) -> Result<(), AllocError> {
+        let Some(line) = facts.line else {
+            return Ok(());
+        };
+        self.raw("<p>Line ")?;
+        self.number(line)?;
+        if let Some(column) = facts.column {
+            self.raw(", column ")?;
+            self.number(column)?;
         }
-        let lines = lines_below(alloc, &sheet.page)?;
+        self.raw(":</p>\n")
+    }
+
+    // What the lines of a sheet's page below its first say.
+    fn body(&mut self, lines: &[&[u8]], sheet: &SheetTold) -> Result<(), AllocError> {
         if sheet.accepted {
-            self.bindings(&lines)?;
-        } else if sheet.facts.line.is_some() {
-            self.refused(&lines)?;
-        } else if !lines.is_empty() {
-            self.remaining(&lines)?;
-            match &sheet.why {
-                Ok(lines) => self.conflict(lines)?,
-                Err(why) => self.unknown(*why)?,
-            }
+            return self.bindings(lines);
         }
-        self.new_names(&sheet.new)?;
-        self.raw("</section>\n")
+        if sheet.facts.line.is_some() {
+            return self.refused(lines);
+        }
+        if lines.is_empty() {
+            return Ok(());
+        }
+        self.remaining(lines)?;
+        match &sheet.why {
+            Ok(lines) => self.conflict(lines),
+            Err(why) => self.unknown(*why),
+        }
     }
 
     // What is noted: lines that begin with two blanks belong to the note before them.
@@ -333,22 +363,29 @@ fn page(alloc: Global, report: &Report) -> Result<Vec<u8>, AllocError> {
     Ok(html.out)
 }
 
+// Writes the page of a report into a file.
+fn write_page<R: Files + AllocGlobal>(rt: &R, path: &str, report: &Report) -> Result<()> {
+    let page = page(rt.alloc(), report)?;
+    write_file(rt, path, &page).context("the page can't be written")
+}
+
+// The last line of a report.
+fn last_line(alloc: Global, totals: Totals) -> Result<Vec<u8>, AllocError> {
+    let mut last = Vec::new(alloc);
+    put_total(&mut last, totals.sheets, totals.accepted, totals.names)?;
+    Ok(last)
+}
+
 /// Writes what is told of the files as a page into a file, prints the last line of the report, and says what is noted.
-pub(crate) fn check<R: Files + Input + Print + Eprint + AllocGlobal>(
+pub fn check<R: Files + Input + Print + Eprint + AllocGlobal>(
     rt: &R,
     named: &Named,
     options: Options,
     path: &str,
 ) -> Result<Totals> {
-    let alloc = rt.alloc();
     let report = tell(rt, named, options)?;
-    write_file(rt, path, &page(alloc, &report)?).context("the page can't be written")?;
-    let mut out = BufWriter::new(alloc, io::writer(rt))?;
-    let mut last = Vec::new(alloc);
-    let totals = report.totals;
-    put_total(&mut last, totals.sheets, totals.accepted, totals.names)?;
-    out.write_all(&last).context("the report can't be written")?;
-    out.flush().context("the report can't be written")?;
+    write_page(rt, path, &report)?;
+    print_whole(rt, &last_line(rt.alloc(), report.totals)?)?;
     report.notes.tell(rt);
-    Ok(totals)
+    Ok(report.totals)
 }

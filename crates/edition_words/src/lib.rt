@@ -1,4 +1,6 @@
-// The words of the command line.
+//! The words of a command line, and by which of them a file can be opened.
+#![tactic(auto)]
+
 ghost use Rattle.std.specs.Prelude.{◌≡◌, ◌++◌, [], ◌∷◌, map, OnOk};
 ghost use Rattle.std.specs.Str.Lossy.{utf8_lossy};
 ghost use Rattle.std.specs.String.{string_bytes};
@@ -38,7 +40,7 @@ impl Words {
     }
 
     /// Can a file be opened by this word, or by what stands behind an option's "=": was it UTF-8 as it was given?
-    pub(crate) fn is_path(&self, word: &str) -> bool {
+    pub fn is_path(&self, word: &str) -> bool {
         !self.replaced.iter().any(|r| is_or_sets(r.as_str(), word))
     }
 }

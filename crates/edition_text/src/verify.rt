@@ -1,6 +1,4 @@
 // Sheets judged by a certificate, with nothing solved: a line for each.
-
-use crate::files::Named;
 use anyhow::{Context, Result};
 use edition_certificate_file::{Entry, Fault, read_certificate};
 use edition_checks::by_certificate::verify_on;
@@ -8,6 +6,7 @@ use edition_checks::status::Totals;
 use edition_checks::written::Written;
 use edition_report::shown::put_shown;
 use edition_report::words::put_amount;
+use edition_told::files::Named;
 use filling::fill_front;
 use rules::Unseen;
 use std::alloc::AllocError;
@@ -99,7 +98,7 @@ fn kept_in<R: Files + AllocGlobal>(rt: &R, path: &str) -> Result<Result<Vec<Entr
 }
 
 /// Judges the files with these names by the certificate in the file at `path`; where there is none, no sheet is verified.
-pub(crate) fn check<R: Files + Input + Print + AllocGlobal>(
+pub fn check<R: Files + Input + Print + AllocGlobal>(
     rt: &R,
     path: &str,
     named: &Named,

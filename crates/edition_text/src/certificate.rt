@@ -1,12 +1,12 @@
 // What an auditor keeps of an edition, as text: of each accepted sheet its digest, and lines that make its constraints true.
-use crate::notes::push_shown;
-use crate::output::write_file;
 use anyhow::{Context, Result, bail};
 use edition::model::{File, Room};
 use edition::telling::tell_sheet;
 use edition_certified::Verdict;
 use edition_checks::keeping::Keeping;
 use edition_checks::tables::Tables;
+use edition_notes::shown::push_shown;
+use edition_options::output::write_file;
 use rules::{Refusal, Shown};
 use std::alloc::Global;
 use std::fmt::Write;

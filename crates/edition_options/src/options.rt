@@ -1,13 +1,12 @@
-// The command line.
+// The options of a command line.
 use crate::output::Output;
 use clap::{Arg, ArgAction, ArgMatches, Command};
-use edition::model::How;
 use rules::Shown;
 use std::alloc::{AllocError, Global};
 
 /// As lines, as one value of JSON, as a page of HTML in a file; or judged by the certificate in a file.
 #[derive(Clone, Copy)]
-pub(crate) enum Form<'a> {
+pub enum Form<'a> {
     Text,
     Json,
     Html(&'a str),
@@ -16,8 +15,9 @@ pub(crate) enum Form<'a> {
 
 /// What was asked for beside the files.
 #[derive(Clone, Copy)]
-pub(crate) struct Options<'a> {
-    pub how: How,
+pub struct Options<'a> {
+    pub shown: Shown,
+    pub why: bool,
     pub form: Form<'a>,
     pub certificate: Option<&'a str>,
     pub names: bool,
@@ -27,16 +27,14 @@ pub(crate) struct Options<'a> {
 
 impl<'a> Options<'a> {
     /// By the flags that were given.
-    pub(crate) fn of(matches: &'a ArgMatches) -> Options<'a> {
+    pub fn of(matches: &'a ArgMatches) -> Options<'a> {
         Options {
-            how: How {
-                shown: if matches.get_flag("quiet") {
-                    Shown::Quiet
-                } else {
-                    Shown::All
-                },
-                why: matches.get_flag("why"),
+            shown: if matches.get_flag("quiet") {
+                Shown::Quiet
+            } else {
+                Shown::All
             },
+            why: matches.get_flag("why"),
             form: form_of(matches),
             certificate: matches.get_str("certificate"),
             names: matches.get_flag("names"),
@@ -46,7 +44,7 @@ impl<'a> Options<'a> {
     }
 
     /// The file that is to be written, if one is.
-    pub(crate) fn output(self) -> Option<Output<'a>> {
+    pub fn output(self) -> Option<Output<'a>> {
         match (self.form, self.certificate) {
             (Form::Html(path), _) => Some(Output::Page(path)),
             (_, Some(path)) => Some(Output::Certificate(path)),
@@ -55,7 +53,7 @@ impl<'a> Options<'a> {
     }
 
     /// The file that an option names, if one does; no two that do stand together.
-    pub(crate) fn path(self) -> Option<&'a str> {
+    pub fn path(self) -> Option<&'a str> {
         if let Form::Verified(path) = self.form {
             return Some(path);
         }
@@ -66,8 +64,8 @@ impl<'a> Options<'a> {
     }
 
     /// Is it told which lines conflict? A page to look at always tells it.
-    pub(crate) fn is_why_told(self) -> bool {
-        self.how.why || matches!(self.form, Form::Html(_))
+    pub fn is_why_told(self) -> bool {
+        self.why || matches!(self.form, Form::Html(_))
     }
 }
 
@@ -99,25 +97,46 @@ A FILE of --certificate or --html is made anew only where it isn't there, is emp
 Exit status: 0 every sheet is accepted; 1 one isn't, a file that can't be read among them; 2 a mistake on the command line; \
 3 no whole report (no memory, or the output can't be written), or a sheet that is accepted isn't in the certificate.";
 
-fn flag<'a>(alloc: Global, name: &'a str, help: &'a str) -> Arg<'a> {
-    Arg::new(alloc, name)
-        .long(name)
-        .help(help)
-        .action(ArgAction::SetTrue)
+// An option by its name alone.
+fn option<'a>(alloc: Global, name: &'a str, help: &'a str) -> Arg<'a> {
+    Arg::new(alloc, name).long(name).help(help)
 }
 
-// An option that names a file, and stands beside none of the others.
+// One that is given or not.
+fn flag<'a>(alloc: Global, name: &'a str, help: &'a str) -> Arg<'a> {
+    option(alloc, name, help).action(ArgAction::SetTrue)
+}
+
+// One that names a file, and stands beside none of the others.
 fn file<'a>(
     alloc: Global,
     name: &'a str,
     help: &'a str,
     others: &'a [&'a str],
 ) -> Result<Arg<'a>, AllocError> {
-    Arg::new(alloc, name)
-        .long(name)
+    option(alloc, name, help)
         .value_name("FILE")
-        .help(help)
         .conflicts_with_all(others)
+}
+
+// An option that is given or not, beside those that the command has.
+fn with_flag<'a>(
+    alloc: Global,
+    command: Command<'a>,
+    name: &'a str,
+    help: &'a str,
+) -> Result<Command<'a>, AllocError> {
+    command.arg(flag(alloc, name, help))
+}
+
+// Pages of sheets that are accepted are left out.
+fn with_quiet<'a>(alloc: Global, command: Command<'a>) -> Result<Command<'a>, AllocError> {
+    command.arg(flag(
+        alloc,
+        "quiet",
+        "Leave out the pages of sheets that are accepted",
+    )
+    .short('q'))
 }
 
 // The names behind a report of lines.
@@ -133,38 +152,42 @@ fn names<'a>(alloc: Global) -> Result<Arg<'a>, AllocError> {
 
 // What is told, and of which sheets.
 fn with_pages<'a>(alloc: Global, command: Command<'a>) -> Result<Command<'a>, AllocError> {
-    command
-        .arg(flag(
-            alloc,
-            "quiet",
-            "Leave out the pages of sheets that are accepted",
-        )
-        .short('q'))?
-        .arg(names(alloc)?)?
-        .arg(flag(
-            alloc,
-            "why",
-            "Tell which lines conflict, under a sheet of which constraints remain",
-        ))?
-        .arg(flag(
-            alloc,
-            "separate",
-            "Give each sheet a table of names of its own",
-        ))?
-        .arg(flag(alloc, "strict", "Count a note as not accepted"))
+    let command = with_quiet(alloc, command)?;
+    let command = command.arg(names(alloc)?)?;
+    let command = with_flag(
+        alloc,
+        command,
+        "why",
+        "Tell which lines conflict, under a sheet of which constraints remain",
+    )?;
+    let command = with_flag(
+        alloc,
+        command,
+        "separate",
+        "Give each sheet a table of names of its own",
+    )?;
+    with_flag(alloc, command, "strict", "Count a note as not accepted")
 }
 
-// In which form it is told.
-fn with_forms<'a>(alloc: Global, command: Command<'a>) -> Result<Command<'a>, AllocError> {
-    let html = file(
+// The report as a page.
+fn html<'a>(alloc: Global) -> Result<Arg<'a>, AllocError> {
+    file(
         alloc,
         "html",
         "Write the report as a page of HTML to FILE, and the last line alone on standard output",
         &["json"],
+    )
+}
+
+// In which form it is told.
+fn with_forms<'a>(alloc: Global, command: Command<'a>) -> Result<Command<'a>, AllocError> {
+    let command = with_flag(
+        alloc,
+        command,
+        "json",
+        "Write one value of JSON in place of lines",
     )?;
-    command
-        .arg(flag(alloc, "json", "Write one value of JSON in place of lines"))?
-        .arg(html)
+    command.arg(html(alloc)?)
 }
 
 // What is kept of sheets.
@@ -177,28 +200,32 @@ fn certificate<'a>(alloc: Global) -> Result<Arg<'a>, AllocError> {
     )
 }
 
+/// What is asked of sheets that are solved.
+const SOLVED: &[&str] = &[
+    "certificate",
+    "json",
+    "html",
+    "quiet",
+    "names",
+    "why",
+    "separate",
+    "strict",
+];
+
 // Sheets that are judged by what was kept of them.
 fn verify<'a>(alloc: Global) -> Result<Arg<'a>, AllocError> {
     file(
         alloc,
         "verify",
         "Solve nothing: judge the sheets by the certificate in FILE",
-        &[
-            "certificate",
-            "json",
-            "html",
-            "quiet",
-            "names",
-            "why",
-            "separate",
-            "strict",
-        ],
+        SOLVED,
     )
 }
 
 // What is kept of sheets, and sheets that are judged by it.
 fn with_certificates<'a>(alloc: Global, command: Command<'a>) -> Result<Command<'a>, AllocError> {
-    command.arg(certificate(alloc)?)?.arg(verify(alloc)?)
+    let command = command.arg(certificate(alloc)?)?;
+    command.arg(verify(alloc)?)
 }
 
 // The files that are checked.
@@ -211,10 +238,14 @@ fn sheets<'a>(alloc: Global) -> Arg<'a> {
         .num_args(0..)
 }
 
-// The program, as its help begins and ends.
+// The program by its name and version.
 fn program<'a>(alloc: Global) -> Command<'a> {
-    Command::new(alloc, "check_edition")
-        .version("0.1.0")
+    Command::new(alloc, "check_edition").version("0.1.0")
+}
+
+// It, as its help begins and ends.
+fn described<'a>(alloc: Global) -> Command<'a> {
+    program(alloc)
         .about(
             "Checks sheets of type and dimension constraints: each is solved, and what solves it is judged",
         )
@@ -222,8 +253,8 @@ fn program<'a>(alloc: Global) -> Command<'a> {
 }
 
 /// The words that the program takes.
-pub(crate) fn command<'a>(alloc: Global) -> Result<Command<'a>, AllocError> {
-    let command = program(alloc).arg(sheets(alloc))?;
+pub fn command<'a>(alloc: Global) -> Result<Command<'a>, AllocError> {
+    let command = described(alloc).arg(sheets(alloc))?;
     let command = with_pages(alloc, command)?;
     let command = with_forms(alloc, command)?;
     with_certificates(alloc, command)
