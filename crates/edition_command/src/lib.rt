@@ -10,6 +10,7 @@ pub use edition_checks::status::Status;
 use edition_checks::status::{Totals, status_of};
 use edition_notes::shown::push_shown;
 use edition_options::options::{Form, Options, command};
+use edition_options::output::{Streams, path_of};
 use edition_text::{apart, together, verify};
 use edition_told::files::Named;
 pub use edition_words::Words;
@@ -30,16 +31,30 @@ fn check<R: Files + Input + Print + Eprint + AllocGlobal>(
     }
 }
 
+// Is the one word of a command line that asks for help or for the version? Beside others it may be a sheet whose name begins with "-".
+fn asks_alone(words: &Words) -> bool {
+    match words.all.as_slice() {
+        [_, word] => matches!(word.as_str(), "-h" | "--help" | "-V" | "--version"),
+        _ => false,
+    }
+}
+
 // Prints what a command line is answered that names no files to check: help, the version, or the mistake in it.
-fn answer<R: Print + Eprint>(rt: &R, error: &clap::Error) -> Result<Status> {
+fn answer<R: Print + Eprint>(rt: &R, words: &Words, error: &clap::Error) -> Result<Status> {
     if error.kind() == ErrorKind::OutOfMemory {
         return Err(anyhow!("out of memory"));
     }
-    let printed = error.print(rt);
     if error.use_stderr() {
+        let _ = error.print(rt);
         return Ok(Status::Usage);
     }
-    printed?;
+    if !asks_alone(words) {
+        return Ok(mistake(
+            rt,
+            "help and version are asked for alone; a sheet whose name begins with - is named as ./-NAME",
+        ));
+    }
+    error.print(rt)?;
     Ok(Status::Accepted)
 }
 
@@ -59,36 +74,64 @@ fn line_on<R: AllocGlobal>(rt: &R, path: &str, what: &str) -> Result<String> {
     Ok(line)
 }
 
-// What is wrong with the file that an option names, if something is: it can't be opened by its name, or it is to be written and is a sheet, or where
-// standard output goes.
+// What is wrong with the sheets that are named, if something is: standard input twice, or one that standard output or standard error goes into.
+fn wrong_sheet<'a, R: Files>(
+    rt: &R,
+    names: &'a [&'a str],
+    streams: Streams,
+) -> Option<(&'a str, &'static str)> {
+    let mut input = false;
+    for name in names {
+        if *name == "-" && input {
+            return Some((*name, ": standard input is named twice"));
+        }
+        input = input || *name == "-";
+        if streams.go_into(rt, path_of(name)) {
+            return Some((*name, ": a sheet, and standard output or standard error goes into it"));
+        }
+    }
+    None
+}
+
+// What is wrong with the file that an option names, if something is: it can't be opened by its name, or it is to be written and is a sheet, or standard output
+// or standard error goes into it.
+fn wrong_file<'a, R: Files>(
+    rt: &R,
+    words: &Words,
+    names: &[&str],
+    options: Options<'a>,
+    streams: Streams,
+) -> Option<(&'a str, &'static str)> {
+    let path = options.path()?;
+    if !words.is_path(path) {
+        return Some((path, ": no file can be opened by a name that isn't UTF-8"));
+    }
+    if streams.go_into(rt, path) {
+        return Some((path, ": named by an option, and standard output or standard error goes into it"));
+    }
+    match options.output() {
+        Some(output) if output.is_sheet(rt, names) => {
+            Some((path, ": named as a sheet, and as the file to write"))
+        }
+        _ => None,
+    }
+}
+
+// What is wrong with the files of a command line, as a line, if something is.
 fn wrong_with<R: Files + AllocGlobal>(
     rt: &R,
     words: &Words,
     names: &[&str],
     options: Options,
 ) -> Result<Option<String>> {
-    let Some(path) = options.path() else {
-        return Ok(None);
+    let streams = Streams::of(rt);
+    let wrong = match wrong_sheet(rt, names, streams) {
+        None => wrong_file(rt, words, names, options, streams),
+        wrong => wrong,
     };
-    if !words.is_path(path) {
-        return Ok(Some(line_on(
-            rt,
-            path,
-            ": no file can be opened by a name that isn't UTF-8",
-        )?));
-    }
-    match options.output() {
-        Some(output) if output.is_sheet(rt, names) => Ok(Some(line_on(
-            rt,
-            path,
-            ": named as a sheet, and as the file to write",
-        )?)),
-        Some(output) if output.is_report(rt) => Ok(Some(line_on(
-            rt,
-            path,
-            ": the file to write, and standard output goes into it too",
-        )?)),
-        _ => Ok(None),
+    match wrong {
+        Some((path, what)) => Ok(Some(line_on(rt, path, what)?)),
+        None => Ok(None),
     }
 }
 
@@ -113,21 +156,25 @@ fn check_named<R: Files + Input + Print + Eprint + AllocGlobal>(
 ) -> Result<Status> {
     check_output(rt, options)?;
     let totals = check(rt, named, options)?;
+    if options.strict && 0 < totals.notes {
+        let _ = eprintln!(rt; "check_edition: --strict, and there are notes: the status is 1");
+    }
     Ok(status_of(totals, options.strict))
 }
 
-// Checks what comes from standard input, where a command line names no file.
-fn check_input<R: Files + Input + Print + Eprint + AllocGlobal>(
+// Checks the sheets with these names.
+fn check_names<R: Files + Input + Print + Eprint + AllocGlobal>(
     rt: &R,
     words: &Words,
+    names: &[&str],
     options: Options,
 ) -> Result<Status> {
-    if let Form::Verified(_) = options.form {
-        return Ok(mistake(rt, "no sheet: name those to be judged by the certificate"));
+    if let Some(what) = wrong_with(rt, words, names, options)? {
+        return Ok(mistake(rt, &what));
     }
-    match Named::input(rt, words)? {
+    match Named::of(rt, names, words)? {
         Some(named) => check_named(rt, &named, options),
-        None => Ok(mistake(rt, "no sheet: name files, or - for standard input")),
+        None => Ok(mistake(rt, "no sheet: nothing comes from standard input")),
     }
 }
 
@@ -138,16 +185,15 @@ fn check_words<R: Files + Input + Print + Eprint + AllocGlobal>(
 ) -> Result<Status> {
     let matches = match command(rt.alloc())?.try_get_matches_from(words.all.as_slice()) {
         Ok(matches) => matches,
-        Err(error) => return answer(rt, &error),
+        Err(error) => return answer(rt, words, &error),
     };
     let options = Options::of(&matches);
-    let names = matches.get_strs("FILE");
-    if let Some(what) = wrong_with(rt, words, names.unwrap_or(&["-"]), options)? {
-        return Ok(mistake(rt, &what));
-    }
-    match names {
-        Some(names) => check_named(rt, &Named::files(names, words), options),
-        None => check_input(rt, words, options),
+    match (matches.get_strs("FILE"), options.form) {
+        (Some(names), _) => check_names(rt, words, names, options),
+        (None, Form::Verified(_)) => {
+            Ok(mistake(rt, "no sheet: name those to be judged by the certificate"))
+        }
+        (None, _) => check_names(rt, words, &["-"], options),
     }
 }
 

@@ -92,7 +92,8 @@ A page begins with the file's name, and the place where one is known, NAME:LINE:
 Notes on standard error (names that look alike, structs whose fields differ, sheets without a constraint) are no part of a verdict; \
 with --separate names of different sheets are not compared.
 
-A FILE of --certificate or --html is made anew only where it isn't there, is empty, or is such a file already; a sheet is never overwritten.
+A FILE of --certificate or --html is made anew only where it isn't there or is such a file already; a sheet is never overwritten. \
+It is written as FILE.part first.
 
 Exit status: 0 every sheet is accepted; 1 one isn't, a file that can't be read among them; 2 a mistake on the command line; \
 3 no whole report (no memory, or the output can't be written), or a sheet that is accepted isn't in the certificate.";
@@ -166,7 +167,7 @@ fn with_pages<'a>(alloc: Global, command: Command<'a>) -> Result<Command<'a>, Al
         "separate",
         "Give each sheet a table of names of its own",
     )?;
-    with_flag(alloc, command, "strict", "Count a note as not accepted")
+    with_flag(alloc, command, "strict", "Exit with 1 where there is a note")
 }
 
 // The report as a page.

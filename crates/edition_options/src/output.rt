@@ -1,4 +1,5 @@
 // A file that is made anew: nothing else is overwritten.
+use anyhow::{Context, Result};
 use filling::fill_front;
 use std::io::{ErrorKind, Write};
 use std::os::unix::fs::MetadataExt;
@@ -35,11 +36,11 @@ impl<'a> Output<'a> {
         }
     }
 
-    /// May the file be made anew: is it none yet, or empty, or no file proper (a device, a pipe), or does it begin as what is written? An error where that
-    /// can't be seen: then something may be there.
+    /// May the file be made anew: is it none yet, or no file proper (a device, a pipe), or does it begin as what is written? So an empty file that is there
+    /// is left, which may be a sheet that nobody has filled in yet. An error where that can't be seen: then something may be there.
     pub fn may_be_written<R: Files>(self, rt: &R) -> io::Result<bool> {
         match fs::metadata(rt, self.path()) {
-            Ok(found) if found.is_file() && 0 < found.len() => self.begins_so(rt),
+            Ok(found) if found.is_file() => self.begins_so(rt),
             Ok(_) => Ok(true),
             Err(error) if error.kind() == ErrorKind::NotFound => Ok(true),
             Err(error) => Err(error),
@@ -51,19 +52,13 @@ impl<'a> Output<'a> {
         let path = self.path();
         let ours = identity(rt, path);
         for name in names {
-            // As a sheet "-" is standard input, and as the file to write a file of that name.
-            let sheet = if *name == "-" { "/dev/stdin" } else { *name };
+            // As the file to write, "-" is a file of that name.
+            let sheet = path_of(name);
             if sheet == path || ours.is_some() && identity(rt, sheet) == ours {
                 return true;
             }
         }
         false
-    }
-
-    /// Does standard output go into the file?
-    pub fn is_report<R: Files>(self, rt: &R) -> bool {
-        let ours = identity(rt, self.path());
-        ours.is_some() && identity(rt, "/dev/stdout") == ours
     }
 
     // Does the file begin as what is written?
@@ -88,9 +83,69 @@ fn identity<R: Files>(rt: &R, path: &str) -> Option<(u64, u64)> {
     }
 }
 
-/// Writes bytes into a file, which is made anew.
-pub fn write_file<R: Files>(rt: &R, path: &str, bytes: &[u8]) -> io::Result<()> {
-    let mut file = fs::create(rt, path)?;
+/// The path of a sheet by its name: "-" is standard input.
+pub fn path_of(name: &str) -> &str {
+    if name == "-" { "/dev/stdin" } else { name }
+}
+
+/// The files that standard output and standard error go into, where these are regular files.
+#[derive(Clone, Copy)]
+pub struct Streams {
+    output: Option<(u64, u64)>,
+    error: Option<(u64, u64)>,
+}
+
+impl Streams {
+    /// Those of this run.
+    pub fn of<R: Files>(rt: &R) -> Streams {
+        Streams {
+            output: identity(rt, "/dev/stdout"),
+            error: identity(rt, "/dev/stderr"),
+        }
+    }
+
+    /// Does one of them go into the file at this path?
+    pub fn go_into<R: Files>(self, rt: &R, path: &str) -> bool {
+        let there = identity(rt, path);
+        there.is_some() && (self.output == there || self.error == there)
+    }
+}
+
+// May another file be put in the place of what stands at the path: is nothing there, or a regular file and no link to one?
+fn is_replaceable<R: Files>(rt: &R, path: &str) -> bool {
+    match fs::symlink_metadata(rt, path) {
+        Ok(found) => found.is_file(),
+        Err(error) => error.kind() == ErrorKind::NotFound,
+    }
+}
+
+// Writes all bytes into an open file.
+fn fill<F: Write>(file: &mut F, bytes: &[u8]) -> io::Result<()> {
     file.write_all(bytes)?;
     file.flush()
+}
+
+// Writes a file that isn't there yet; where that fails, none is left.
+fn write_new<R: Files>(rt: &R, path: &str, bytes: &[u8]) -> io::Result<()> {
+    let mut file = fs::File::create_new(rt, path)?;
+    let filled = fill(&mut file, bytes);
+    if filled.is_err() {
+        let _ = fs::remove_file(rt, path);
+    }
+    filled
+}
+
+/// Writes bytes into a file, which is made anew: beside it, under its name with `.part` behind, and then put in its place, so that what was there is left whole
+/// where writing fails or is cut off. A device, a pipe and what a link leads to are written into where they are.
+pub fn write_file<R: Files + AllocGlobal>(rt: &R, path: &str, bytes: &[u8]) -> Result<()> {
+    if !is_replaceable(rt, path) {
+        fill(&mut fs::create(rt, path)?, bytes)?;
+        return Ok(());
+    }
+    let mut part = String::new(rt.alloc());
+    part.push_str(path)?;
+    part.push_str(".part")?;
+    write_new(rt, &part, bytes).context("the file of its name with .part behind can't be made")?;
+    fs::rename(rt, &part, path)?;
+    Ok(())
 }

@@ -7,7 +7,7 @@ use edition_html::put_text;
 use edition_notes::notes::Notes;
 use edition_options::options::Options;
 use edition_options::output::{PAGE, write_file};
-use edition_report::words::{put_amount, put_refused, put_total};
+use edition_report::words::{put_amount, put_quantity, put_refused, put_total};
 use edition_told::files::Named;
 use edition_told::printing::print_whole;
 use edition_told::told::{Facts, Line, Report, SheetTold, lines_below, tell};
@@ -27,6 +27,7 @@ const STYLE: &str = "
   th code { font-weight: normal; }
   th, td { text-align: left; vertical-align: top; padding: 0.25rem 0.8rem 0.25rem 0; border-bottom: 1px solid #ccc; overflow-wrap: anywhere; }
   td.count, th.count { text-align: right; }
+  h2, th a, code { white-space: pre-wrap; }
   code, pre { font-family: ui-monospace, monospace; font-size: 0.92em; }
   pre { background: #f4f4f4; padding: 0.5rem 0.8rem; overflow-x: auto; white-space: pre-wrap; overflow-wrap: anywhere; }
   mark { background: #ffd84d; border-bottom: 3px solid #b00020; }
@@ -140,7 +141,18 @@ impl Html {
         put_total(&mut self.out, totals.sheets, totals.accepted, totals.names)?;
         self.raw("<meter min=\"0\" max=\"256\" aria-label=\"names in the table\" value=\"")?;
         self.number(totals.names)?;
-        self.raw("\"></meter></p>\n")
+        self.raw("\"></meter></p>\n")?;
+        self.noted(totals.notes)
+    }
+
+    // How many notes there are, if there are some: they stand at the end.
+    fn noted(&mut self, notes: usize) -> Result<(), AllocError> {
+        if notes == 0 {
+            return Ok(());
+        }
+        self.raw("<p><a href=\"#notes\">")?;
+        put_quantity(&mut self.out, notes, b" note")?;
+        self.raw("</a></p>\n")
     }
 
     // The table of all sheets: a row each.
@@ -339,7 +351,7 @@ impl Html {
         if notes.count == 0 {
             return Ok(());
         }
-        self.raw("<section>\n<h2>Notes</h2>\n<pre>")?;
+        self.raw("<section id=\"notes\">\n<h2>Notes</h2>\n<pre>")?;
         for line in notes.lines().as_bytes().split(|b| *b == b'\n') {
             self.text(line)?;
             self.raw("\n")?;

@@ -1,4 +1,5 @@
 // What an auditor keeps of an edition, as text: of each accepted sheet its digest, and lines that make its constraints true.
+use crate::verify::MOST_BYTES;
 use anyhow::{Context, Result, bail};
 use edition::model::{File, Room};
 use edition::telling::tell_sheet;
@@ -79,9 +80,12 @@ impl Certificate {
     }
 
     /// Writes it into a file, which is made anew, and says which sheets aren't in it.
-    pub(crate) fn write<R: Files + Eprint>(&self, rt: &R, path: &str) -> Result<()> {
+    pub(crate) fn write<R: Files + Eprint + AllocGlobal>(&self, rt: &R, path: &str) -> Result<()> {
         let text = self.kept.text()?;
         let _ = rt.eprint(&self.left_out);
+        if MOST_BYTES < text.len() {
+            bail!("the certificate would be longer than 64 MB, and none could judge by it: check the sheets in parts");
+        }
         write_file(rt, path, &text).context("the certificate can't be written")
     }
 

@@ -57,7 +57,7 @@ fn keep_and_note<R: Files + Eprint + AllocGlobal>(
 }
 
 // The certificate of the files, which is written if that was asked for; else that of none.
-fn kept_of<R: Files + Eprint>(
+fn kept_of<R: Files + Eprint + AllocGlobal>(
     rt: &R,
     alloc: Global,
     path: Option<&str>,

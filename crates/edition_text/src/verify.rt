@@ -21,6 +21,9 @@ const PIECE_BYTES: usize = 1_048_576;
 /// It has at most so many pieces.
 const PIECES: usize = 64;
 
+/// It has at most so many bytes: a longer one is neither read nor written.
+pub(crate) const MOST_BYTES: usize = PIECES * PIECE_BYTES;
+
 /// How a certificate begins whose lines were given carriage returns.
 const RETURNED: &[u8] = b"check_edition certificate 1\r\n";
 

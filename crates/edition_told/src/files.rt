@@ -14,7 +14,7 @@ use std::str::from_utf8;
 pub struct Named<'a> {
     pub names: &'a [&'a str],
     words: &'a Words,
-    // Standard input, where no file is named; it is read before anything is told.
+    // Standard input, where "-" is among the names; it is read before anything is told.
     input: Option<Result<Vec<u8>, Unseen>>,
 }
 
@@ -41,57 +41,54 @@ fn read_file<R: Files + AllocGlobal>(
     }
 }
 
-impl<'a> Named<'a> {
-    /// Files with these names.
-    pub fn files(names: &'a [&'a str], words: &'a Words) -> Named<'a> {
-        Named {
-            names,
-            words,
-            input: None,
-        }
-    }
+// What comes from standard input.
+fn read_input<R: Input + AllocGlobal>(rt: &R) -> Result<Result<Vec<u8>, Unseen>> {
+    let alloc = rt.alloc();
+    let mut front = Front::new(alloc)?;
+    Ok(front.read_sheet(alloc, &mut rt.reader())?)
+}
 
-    /// Standard input, where no file is named; none, where nothing comes from it.
-    pub fn input<R: Input + AllocGlobal>(rt: &R, words: &'a Words) -> Result<Option<Named<'a>>> {
-        let alloc = rt.alloc();
-        let mut front = Front::new(alloc)?;
-        let text = front.read_sheet(alloc, &mut rt.reader())?;
-        if let Ok(bytes) = &text {
+impl<'a> Named<'a> {
+    /// Files with these names, of which "-" is standard input. None, where that is named and nothing comes from it: who was to send a sheet has ended.
+    pub fn of<R: Input + AllocGlobal>(
+        rt: &R,
+        names: &'a [&'a str],
+        words: &'a Words,
+    ) -> Result<Option<Named<'a>>> {
+        let input = if names.contains(&"-") {
+            Some(read_input(rt)?)
+        } else {
+            None
+        };
+        if let Some(Ok(bytes)) = &input {
             if bytes.is_empty() {
                 return Ok(None);
             }
         }
-        Ok(Some(Named {
-            names: &["-"],
-            words,
-            input: Some(text),
-        }))
+        Ok(Some(Named { names, words, input }))
     }
 
     /// Reads the file with this name; "-" is standard input.
-    pub fn read<R: Files + Input + AllocGlobal>(
+    pub fn read<R: Files + AllocGlobal>(
         &self,
         rt: &R,
         name: &'a str,
         front: &mut Front,
     ) -> Result<Given<'a>> {
         let text = match &self.input {
-            Some(text) => copied(rt.alloc(), text)?,
-            None => self.text_of(rt, name, front)?,
+            Some(text) if name == "-" => copied(rt.alloc(), text)?,
+            _ => self.text_of(rt, name, front)?,
         };
         Ok(Given { name, text })
     }
 
-    // The bytes of the file with this name, where standard input was not read before.
-    fn text_of<R: Files + Input + AllocGlobal>(
+    // The bytes of the file with this name.
+    fn text_of<R: Files + AllocGlobal>(
         &self,
         rt: &R,
         name: &str,
         front: &mut Front,
     ) -> Result<Result<Vec<u8>, Unseen>, AllocError> {
-        if name == "-" {
-            return front.read_sheet(rt.alloc(), &mut rt.reader());
-        }
         if self.words.is_path(name) {
             return read_file(rt, name, front);
         }
@@ -99,7 +96,7 @@ impl<'a> Named<'a> {
     }
 
     /// Reads all files, one after another.
-    pub fn read_all<R: Files + Input + AllocGlobal>(&self, rt: &R) -> Result<Vec<Given<'a>>> {
+    pub fn read_all<R: Files + AllocGlobal>(&self, rt: &R) -> Result<Vec<Given<'a>>> {
         let alloc = rt.alloc();
         let mut front = Front::new(alloc)?;
         let mut given = Vec::with_capacity(alloc, self.names.len())?;

@@ -17,6 +17,7 @@ use names::tables::NameTable;
 use rules::{Refusal, Shown};
 use std::alloc::{AllocError, Global};
 use std::rt::Files;
+use text_spell::put_name;
 
 /// What is told of an outcome beside its page: in one word, the refusal's number, line and column, and completed rounds.
 #[derive(Clone, Copy)]
@@ -95,7 +96,7 @@ pub struct Line {
     pub text: Vec<u8>,
 }
 
-/// What is told of a sheet: its file's name, what became of it, its new names, its page as it would be printed, and the lines that conflict, or the refusal
+/// What is told of a sheet: its file's name, what became of it, its new names as they are spelled, its page as it would be printed, and the lines that conflict, or the refusal
 /// that was met while they were looked for.
 #[derive(Drop)]
 pub struct SheetTold {
@@ -227,7 +228,7 @@ fn conflict_lines(
     Ok(Ok(lines))
 }
 
-// The new names of a sheet, whose numbers begin with `first`.
+// The new names of a sheet as it may spell them, whose numbers begin with `first`.
 fn names_from(
     alloc: Global,
     names: NameTable,
@@ -236,7 +237,9 @@ fn names_from(
 ) -> Result<Vec<Vec<u8>>, AllocError> {
     let mut all = Vec::new(alloc);
     for number in first..first.saturating_add(new_names(sheet)) {
-        all.push(Vec::from_slice(alloc, names.name(number))?)?;
+        let mut spelled = Vec::new(alloc);
+        put_name(&mut spelled, names.name(number))?;
+        all.push(spelled)?;
     }
     Ok(all)
 }
