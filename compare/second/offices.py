@@ -13,8 +13,8 @@ from cases import FILLED, table_of, words
 from library import CALLS, Library
 from values import Refused, read_table
 
-ASKED = ["contains", "closed", "variables", "ceiling", "add", "replace_in_type", "replace_in_set", "solve", "confirm", "solve_all", "eliminate", "judge", "check_line",
-         "quantify", "generalise", "instantiate", "write_text", "rescue"]
+ASKED = ["contains", "closed", "variables", "ceiling", "add", "replace_in_type", "replace_in_set", "solve", "confirm", "solve_all", "eliminate", "judge",
+         "check_line", "quantify", "generalise", "instantiate", "write_text", "rescue"]
 RECORDS = ("words", "set", "sets", "bindings", "bounds", "scheme", "types", "constraint")
 NAMED = (1, 2, 8, 9, 11, 12, 13, 23, 24)
 
