@@ -111,4 +111,3 @@ module _ (why : Bool) (shown : Shown) (pool table : List ℕ) (xs : List Sheet) 
   pub whole-cut : {v : E} → Puts {E = E} old (collect (pageTold why shown (table_of pool table)) e.pages) (Err v) mid → (r : Result (Unit {0}) E) → IsErr r
       → Puts old (editionTold why shown e) r mid
   whole-cut a r i = rw (told-is why shown e, ← w.pools, ← w.tables) (cut _ r i a)
-
