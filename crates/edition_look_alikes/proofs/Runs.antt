@@ -4,7 +4,7 @@ use Rattle.std.proofs.Common.{sym, ◌∙◌, refl, append_assoc, append-nil, dr
 use Rattle.std.proofs.Math.Numerals.{add-one}
 use Rattle.rules.specs.Names.{Bytes}
 use Rattle.edition_look_alikes.specs.declared.Pair.{Pair}
-use Rattle.edition_look_alikes.specs.Alike.{alike, alikeTo, alikePairs, hasFormat, oneIf, withFormat}
+use Rattle.edition_look_alikes.specs.Alike.{alike, alikeTo, alikePairs, hasUnseen, oneIf, withUnseen}
 
 module _ (ns : List Bytes) (j : ℕ) where
   module _ (h : j < length ns) where
@@ -17,9 +17,9 @@ module _ (ns : List Bytes) (j : ℕ) where
     unfolding alikePairs
     pairs_next = rw (drop-cons ns j [] h, add-one j) refl
 
-    pub format_next : withFormat j (drop j ns) ≡ oneIf (hasFormat (get_or ns j [])) j ++ withFormat (j + 1) (drop (j + 1) ns)
-    unfolding withFormat
-    format_next = rw (drop-cons ns j [] h, add-one j) refl
+    pub unseen_next : withUnseen j (drop j ns) ≡ oneIf (hasUnseen (get_or ns j [])) j ++ withUnseen (j + 1) (drop (j + 1) ns)
+    unfolding withUnseen
+    unseen_next = rw (drop-cons ns j [] h, add-one j) refl
 
   module _ (h : length ns ≤ j) where
     pub to_end : (i : ℕ) (n : Bytes) → alikeTo i n j (drop j ns) ≡ []
@@ -30,9 +30,9 @@ module _ (ns : List Bytes) (j : ℕ) where
     unfolding alikePairs
     pairs_end = rw (drop_of_length-le ns {i = j} h) refl
 
-    pub format_end : withFormat j (drop j ns) ≡ []
-    unfolding withFormat
-    format_end = rw (drop_of_length-le ns {i = j} h) refl
+    pub unseen_end : withUnseen j (drop j ns) ≡ []
+    unfolding withUnseen
+    unseen_end = rw (drop_of_length-le ns {i = j} h) refl
 
 -- what was found before a name, with it, and behind it, is all
 module _ (ns : List Bytes) (j : ℕ) (h : j < length ns) where
@@ -53,14 +53,14 @@ module _ (ns : List Bytes) (j : ℕ) (h : j < length ns) where
         rw (e, append_assoc found (alikeTo j (get_or ns j []) (j + 1) (drop (j + 1) ns)) (alikePairs (j + 1) (drop (j + 1) ns)))
         (rw (pairs_next ns j h) at before)
 
-  module _ (found all : List ℕ) (before : found ++ withFormat j (drop j ns) ≡ all) where
-    pub format_more : true ≡ hasFormat (get_or ns j []) → (found' : List ℕ) → found' ≡ found ++ j ∷ []
-        → found' ++ withFormat (j + 1) (drop (j + 1) ns) ≡ all
-    format_more y found' e =
-        rw (e, append_assoc found (j ∷ []) (withFormat (j + 1) (drop (j + 1) ns))) (rw (format_next ns j h, ← y) at before)
+  module _ (found all : List ℕ) (before : found ++ withUnseen j (drop j ns) ≡ all) where
+    pub unseen_more : true ≡ hasUnseen (get_or ns j []) → (found' : List ℕ) → found' ≡ found ++ j ∷ []
+        → found' ++ withUnseen (j + 1) (drop (j + 1) ns) ≡ all
+    unseen_more y found' e =
+        rw (e, append_assoc found (j ∷ []) (withUnseen (j + 1) (drop (j + 1) ns))) (rw (unseen_next ns j h, ← y) at before)
 
-    pub format_none : false ≡ hasFormat (get_or ns j []) → found ++ withFormat (j + 1) (drop (j + 1) ns) ≡ all
-    format_none y = rw (format_next ns j h, ← y) at before
+    pub unseen_none : false ≡ hasUnseen (get_or ns j []) → found ++ withUnseen (j + 1) (drop (j + 1) ns) ≡ all
+    unseen_none y = rw (unseen_next ns j h, ← y) at before
 
 -- nothing is found behind the last name
 module _ (ns : List Bytes) (j : ℕ) (h : length ns ≤ j) where
@@ -70,5 +70,5 @@ module _ (ns : List Bytes) (j : ℕ) (h : length ns ≤ j) where
   pub pairs_done : (found all : List Pair) → found ++ alikePairs j (drop j ns) ≡ all → found ≡ all
   pairs_done found all e = sym (append-nil found) ∙ (rw (pairs_end ns j h) at e)
 
-  pub format_done : (found all : List ℕ) → found ++ withFormat j (drop j ns) ≡ all → found ≡ all
-  format_done found all e = sym (append-nil found) ∙ (rw (format_end ns j h) at e)
+  pub unseen_done : (found all : List ℕ) → found ++ withUnseen j (drop j ns) ≡ all → found ≡ all
+  unseen_done found all e = sym (append-nil found) ∙ (rw (unseen_end ns j h) at e)

@@ -9,13 +9,7 @@ use Rattle.caseless.specs.Caseless.{IsCompatibilityMatch}
 use Rattle.rules.specs.Names.{Bytes}
 use Rattle.laws.specs.NameTable.{same-yes}
 use Rattle.laws.proofs.NameTable.{same-no}
-use Rattle.ucd_category.specs.declared.GeneralCategory.{GeneralCategory}
-use Rattle.ucd_category.specs.declared.GeneralCategory.TheVariants.{Format}
-use Rattle.edition_look_alikes.specs.Alike.{alike, isCf, isFormat, hasFormat}
-
-pub not_cf : (g : GeneralCategory) → (g ≡ Format → ⊥) → false ≡ isCf g
-not_cf Format h = absurd (h refl)
-not_cf _ h = refl
+use Rattle.edition_look_alikes.specs.Alike.{alike, isUnseen, hasUnseen}
 
 no-text : (a : Bytes) → (IsUtf8 a → ⊥) → is_utf8 a ≡ false
 no-text a h = elim (is_utf8 a) as (λ b. is_utf8 a ≡ b → b ≡ false) [ true ↦ λ e. absurd (h (IsUtf8-from_is_utf8 a e)) | false ↦ λ e. refl ] refl
@@ -40,10 +34,10 @@ module _ (a b : Bytes) where
   if_matched u v (Err e) h = tt
 
 module _ (n : Bytes) where
-  pub format_no_text : (IsUtf8 n → ⊥) → false ≡ hasFormat n
-  unfolding hasFormat
-  format_no_text h = rw (no-text n h) refl
+  pub unseen_no_text : (IsUtf8 n → ⊥) → false ≡ hasUnseen n
+  unfolding hasUnseen
+  unseen_no_text h = rw (no-text n h) refl
 
-  pub format_in : IsUtf8 n → list_any isFormat (chars n) ≡ hasFormat n
-  unfolding hasFormat
-  format_in u = rw (is_utf8-from_IsUtf8 n u) refl
+  pub unseen_in : IsUtf8 n → list_any isUnseen (chars n) ≡ hasUnseen n
+  unfolding hasUnseen
+  unseen_in u = rw (is_utf8-from_IsUtf8 n u) refl

@@ -1,11 +1,12 @@
 -- Names that a reader may take for one another. A name is any bytes: of one that isn't UTF-8 nothing is said.
-use Rattle.std.specs.Prelude.{Bool, true, false, ◌&&◌, ℕ, suc, List, [], ◌∷◌, ◌++◌, chars}
+use Rattle.std.specs.Prelude.{Bool, true, false, ◌&&◌, ◌||◌, ◌==◌, ℕ, suc, List, [], ◌∷◌, ◌++◌, chars}
 use Rattle.std.specs.List.{list_any}
 use Rattle.std.specs.Str.{is_utf8}
 use Rattle.caseless.specs.Caseless.{compatibility_key}
 use Rattle.ucd_category.specs.GeneralCategory.{general_category}
-use Rattle.ucd_category.specs.declared.GeneralCategory.{GeneralCategory}
-use Rattle.ucd_category.specs.declared.GeneralCategory.TheVariants.{Format}
+use Rattle.ucd_category.specs.GeneralCategoryGroup.{in_group}
+use Rattle.ucd_category.specs.declared.GeneralCategoryGroup.TheVariants.{Other, Separator}
+use Rattle.ucd_derived.specs.Binary.{is_default_ignorable_code_point}
 use Rattle.rules.specs.Names.{Bytes, sameBytes}
 use Rattle.edition_look_alikes.specs.declared.Pair.{Pair}
 
@@ -13,16 +14,13 @@ use Rattle.edition_look_alikes.specs.declared.Pair.{Pair}
 unfoldable pub alike : Bytes → Bytes → Bool
 alike a b = is_utf8 a && is_utf8 b && sameBytes (compatibility_key (chars a)) (compatibility_key (chars b))
 
--- 'format characters are those of the general category Cf'
-abbrev pub isCf : GeneralCategory → Bool
-isCf Format = true
-isCf _ = false
+-- characters that are mostly not seen: those of the general categories C (control, format, private use, unassigned) and Z (blanks and other separators),
+-- those with the property Default_Ignorable_Code_Point, and U+2800, the braille pattern without a dot
+unfoldable pub isUnseen : ℕ → Bool
+isUnseen c = in_group Other (general_category c) || in_group Separator (general_category c) || is_default_ignorable_code_point c || c == 10240
 
-unfoldable pub isFormat : ℕ → Bool
-isFormat c = isCf (general_category c)
-
-unfoldable pub hasFormat : Bytes → Bool
-hasFormat name = is_utf8 name && list_any isFormat (chars name)
+unfoldable pub hasUnseen : Bytes → Bool
+hasUnseen name = is_utf8 name && list_any isUnseen (chars name)
 
 abbrev pub oneIf : {A : Type 0} → Bool → A → List A
 oneIf true a = a ∷ []
@@ -38,7 +36,7 @@ unfoldable pub alikePairs : ℕ → List Bytes → List Pair
 alikePairs i [] = []
 alikePairs i (n ∷ ns) = alikeTo i n (suc i) ns ++ alikePairs (suc i) ns
 
--- the numbers of names with a format character, the first of which has the number i
-unfoldable pub withFormat : ℕ → List Bytes → List ℕ
-withFormat i [] = []
-withFormat i (n ∷ ns) = oneIf (hasFormat n) i ++ withFormat (suc i) ns
+-- the numbers of names with such a character, the first of which has the number i
+unfoldable pub withUnseen : ℕ → List Bytes → List ℕ
+withUnseen i [] = []
+withUnseen i (n ∷ ns) = oneIf (hasUnseen n) i ++ withUnseen (suc i) ns

@@ -5,14 +5,15 @@
 ghost use Rattle.std.specs.Prelude.{◌≡◌, ◌++◌, ◌+◌, ◌<◌, length, drop, get_or, [], chars, IfOk, OnOk};
 ghost use Rattle.std.specs.List.{list_any};
 ghost use Rattle.rules.specs.Names.{table_of, names_of};
-ghost use Rattle.edition_look_alikes.specs.Alike.{alike, isFormat, hasFormat, alikeTo, alikePairs, withFormat};
+ghost use Rattle.edition_look_alikes.specs.Alike.{alike, isUnseen, hasUnseen, alikeTo, alikePairs, withUnseen};
 
 use caseless::compatibility_caseless_match_str;
 use names::inner::count;
 use names::tables::NameTable;
 use std::alloc::{AllocError, Global};
 use std::str::from_utf8;
-use ucd_category::GeneralCategory;
+use ucd_category::{GeneralCategory, GeneralCategoryGroup};
+use ucd_derived::is_default_ignorable_code_point;
 
 /// The numbers of two names, the smaller first.
 #[derive(Clone, Copy, Debug, PartialEq, Eq)]
@@ -32,25 +33,32 @@ pub fn is_alike(alloc: Global, a: &[u8], b: &[u8]) -> Result<bool, AllocError>
     }
 }
 
-/// Is a character of the general category Cf: one that orders or joins what stands beside it, and is mostly not seen by itself?
-fn is_format(c: char) -> bool
-    ensures { result ≡ isFormat c }
+/// Is a character mostly not seen: is its general category a blank's or another that has no shape (C or Z), is it one that a display may leave out
+/// (Default_Ignorable_Code_Point), or is it the braille pattern without a dot?
+#[tactic(auto, unfolding(crate::specs::Alike::isUnseen))]
+fn is_unseen(c: char) -> bool
+    ensures { result ≡ isUnseen c }
 {
-    matches!(GeneralCategory::for_char(c), GeneralCategory::Format)
+    let category = GeneralCategory::for_char(c);
+    GeneralCategoryGroup::Other.contains(category)
+        || GeneralCategoryGroup::Separator.contains(category)
+        || is_default_ignorable_code_point(c)
+        || c == '\u{2800}'
 }
 
-fn any_format(text: &str) -> bool
-    ensures { result ≡ list_any isFormat (chars text.now) }
+fn any_unseen(text: &str) -> bool
+    ensures { result ≡ list_any isUnseen (chars text.now) }
 {
-    text.chars().any(is_format)
+    text.chars().any(is_unseen)
 }
 
-/// Has a name, if it is UTF-8, a character of the general category Cf: a bidirectional override, a zero-width joiner, a soft hyphen?
-pub fn has_format(name: &[u8]) -> bool
-    ensures { result ≡ hasFormat name.now }
+/// Has a name, if it is UTF-8, a character that is mostly not seen: a blank, a control character, a zero-width joiner, a soft hyphen, a variation selector, one
+/// that Unicode leaves to private use or hasn't assigned?
+pub fn has_unseen(name: &[u8]) -> bool
+    ensures { result ≡ hasUnseen name.now }
 {
     match from_utf8(name) {
-        Ok(text) => any_format(text),
+        Ok(text) => any_unseen(text),
         Err(_) => false,
     }
 }
@@ -87,13 +95,13 @@ pub fn alike_pairs(alloc: Global, names: NameTable) -> Result<Vec<Pair>, AllocEr
     Ok(pairs)
 }
 
-/// The numbers of the names in a table that have a character of the general category Cf, in order.
-pub fn with_format(alloc: Global, names: NameTable) -> Result<Vec<u32>, AllocError>
-    ensures { IfOk result (λ v. v.items ≡ withFormat 0 (names_of (table_of names.entry.pool.now names.entry.table.now))) }
+/// The numbers of the names in a table that have a character that is mostly not seen, in order.
+pub fn with_unseen(alloc: Global, names: NameTable) -> Result<Vec<u32>, AllocError>
+    ensures { IfOk result (λ v. v.items ≡ withUnseen 0 (names_of (table_of names.entry.pool.now names.entry.table.now))) }
 {
     let mut numbers = Vec::new(alloc);
     for number in 0..count(names.table) {
-        if has_format(names.name(number)) {
+        if has_unseen(names.name(number)) {
             numbers.push(number)?;
         }
     }
