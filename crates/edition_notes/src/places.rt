@@ -1,101 +1,162 @@
-// Where a name stands in a file.
-use edition::model::File;
-use edition_report::lines::constraint_line;
-use text_spell::is_plain;
+// Where the names of sheets stand, and under which mark.
+use records::seen::view_at;
+use records::{Atom, Open, View};
+use std::alloc::{AllocError, Global};
 
-/// Was a file read, and does none of its lines hold a constraint?
-pub(crate) fn is_empty(file: &File) -> bool {
-    match file.text {
-        Ok(text) => constraint_line(text, 0) == 0,
-        Err(_) => false,
-    }
+/// What a name stands as: two names under different marks are never taken for one another.
+#[derive(Clone, Copy, PartialEq, Eq)]
+pub(crate) enum Mark {
+    Variable,
+    Parameter,
+    Base,
+    Struct,
+    Field,
 }
 
-/// The first line of a file that has a name.
-pub(crate) fn line_with(file: &File, name: &[u8]) -> Option<usize> {
-    let Ok(text) = file.text else {
-        return None;
-    };
-    for (k, line) in text.split(|b| *b == b'\n').enumerate() {
-        if !is_comment(line) && has_name(line, name) {
-            return Some(k.saturating_add(1));
+/// A line of a sheet, by their numbers.
+#[derive(Clone, Copy)]
+pub(crate) struct Place {
+    pub sheet: usize,
+    pub line: usize,
+}
+
+/// Where a name stands under a mark, first in a sheet.
+#[derive(Clone, Copy)]
+pub(crate) struct Standing {
+    pub mark: Mark,
+    pub place: Place,
+}
+
+/// Where each name stands, by its number: sheet by sheet, line by line.
+#[derive(Drop)]
+pub(crate) struct Places {
+    names: Vec<Vec<Standing>>,
+}
+
+impl Places {
+    /// So many names, which stand nowhere yet.
+    pub(crate) fn new(alloc: Global, count: usize) -> Result<Places, AllocError> {
+        let mut names = Vec::new(alloc);
+        for _ in 0..count {
+            names.push(Vec::new(alloc))?;
+        }
+        Ok(Places { names })
+    }
+
+    /// Where a name stands.
+    pub(crate) fn of(&self, name: u32) -> &[Standing] {
+        match self.names.get(name as usize) {
+            Some(standings) => standings,
+            None => &[],
         }
     }
-    None
-}
 
-fn is_comment(line: &[u8]) -> bool {
-    line.iter().find(|b| !is_blank(**b)) == Some(&b'-')
-}
-
-// Does a line have a name, spelled in any way: behind a mark or a quote, or as a field's?
-fn has_name(line: &[u8], name: &[u8]) -> bool {
-    for k in 0..line.len() {
-        let (front, rest) = line.split_at(k);
-        if let Some(rest) = behind_name(rest, name) {
-            if is_marked(front) || is_field(front, rest) {
-                return true;
+    /// Adds those of a sheet, of which the lines that hold its constraints are given.
+    pub(crate) fn add_sheet(
+        &mut self,
+        sheet: usize,
+        lines: &[usize],
+        records: &[u32],
+    ) -> Result<(), AllocError> {
+        let mut constraints = 0usize;
+        for at in 0..records.len() / 4 {
+            let view = view_at(records, at);
+            if begins_constraint(view) {
+                constraints = constraints.saturating_add(1);
             }
+            if let Some((name, mark)) = marked(view) {
+                let place = place_of(sheet, lines, constraints);
+                self.add(name, Standing { mark, place })?;
+            }
+        }
+        Ok(())
+    }
+
+    // Adds where a name stands, if it is the first place in its sheet under its mark.
+    fn add(&mut self, name: u32, standing: Standing) -> Result<(), AllocError> {
+        let Some(standings) = self.names.get_mut(name as usize) else {
+            return Ok(());
+        };
+        for held in standings.iter() {
+            if held.mark == standing.mark && held.place.sheet == standing.place.sheet {
+                return Ok(());
+            }
+        }
+        standings.push(standing)?;
+        Ok(())
+    }
+}
+
+/// Does a record begin a constraint?
+pub(crate) fn begins_constraint(view: View) -> bool {
+    matches!(
+        view,
+        View::Equal | View::IsDim | View::IsScalar | View::HasField(_)
+    )
+}
+
+/// The place of the last of the first so many constraints of a sheet.
+pub(crate) fn place_of(sheet: usize, lines: &[usize], constraints: usize) -> Place {
+    let line = match lines.get(constraints.saturating_sub(1)) {
+        Some(line) => *line,
+        None => 0,
+    };
+    Place { sheet, line }
+}
+
+// The name that a record has, and what it stands as.
+fn marked(view: View) -> Option<(u32, Mark)> {
+    match view {
+        View::Opened(open) | View::Factor(Atom::Free(open), _, _) => open_marked(open),
+        View::Factor(Atom::Base(name), _, _) => Some((name, Mark::Base)),
+        View::Struct(name, _, _) => Some((name, Mark::Struct)),
+        View::Field(name) | View::HasField(name) => Some((name, Mark::Field)),
+        _ => None,
+    }
+}
+
+fn open_marked(open: Open) -> Option<(u32, Mark)> {
+    match open {
+        Open::Var(name) => Some((name, Mark::Variable)),
+        Open::Par(name) => Some((name, Mark::Parameter)),
+        Open::Quant(_) => None,
+    }
+}
+
+// Does a name stand under a mark?
+fn stands_under(standings: &[Standing], mark: Mark) -> bool {
+    for standing in standings {
+        if standing.mark == mark {
+            return true;
         }
     }
     false
 }
 
-// Does a mark or a quote stand right in front?
-fn is_marked(front: &[u8]) -> bool {
-    matches!(front.last(), Some(b'?' | b'!' | b'#' | b'@' | b'"'))
-}
-
-fn is_blank(b: u8) -> bool {
-    matches!(b, b' ' | b'\t' | b'\r')
-}
-
-// Is it a field's name that stands between: behind "{" or ",", and before ":"?
-fn is_field(front: &[u8], rest: &[u8]) -> bool {
-    let before = front.iter().rev().find(|b| !is_blank(**b));
-    let after = rest.iter().find(|b| !is_blank(**b));
-    matches!(before, Some(b'{' | b',')) && after == Some(&b':')
-}
-
-// What stands behind a name, if a line begins with it and it ends there: plain bytes, and any byte as "\" and two hex digits.
-fn behind_name<'a>(line: &'a [u8], name: &[u8]) -> Option<&'a [u8]> {
-    let mut rest = line;
-    for b in name {
-        let Some(behind) = behind(rest, *b) else {
-            return None;
-        };
-        rest = behind;
-    }
-    match rest.first() {
-        Some(b) if is_plain(*b) || *b == b'\\' => None,
-        _ => Some(rest),
-    }
-}
-
-// What stands behind a spelling of a byte, if a line begins with one.
-fn behind(line: &[u8], b: u8) -> Option<&[u8]> {
-    match line {
-        [b'\\', high, low, rest @ ..] => {
-            if byte_of(*high, *low) == Some(b) {
-                Some(rest)
-            } else {
-                None
-            }
+/// Do two names stand under one mark somewhere?
+pub(crate) fn share_mark(a: &[Standing], b: &[Standing]) -> bool {
+    for standing in a {
+        if stands_under(b, standing.mark) {
+            return true;
         }
-        [p, rest @ ..] => {
-            if *p == b && is_plain(b) {
-                Some(rest)
-            } else {
-                None
-            }
-        }
-        [] => None,
     }
+    false
 }
 
-// The byte with these hex digits.
-fn byte_of(high: u8, low: u8) -> Option<u8> {
-    let h = (high as char).to_digit(16)?;
-    let l = (low as char).to_digit(16)?;
-    Some((h * 16 + l) as u8)
+/// Where a name stands first in each sheet, under marks under which another stands too.
+pub(crate) fn shared_places(
+    alloc: Global,
+    name: &[Standing],
+    other: &[Standing],
+) -> Result<Vec<Place>, AllocError> {
+    let mut places = Vec::new(alloc);
+    let mut last = None;
+    for standing in name {
+        let place = standing.place;
+        if last != Some(place.sheet) && stands_under(other, standing.mark) {
+            places.push(place)?;
+            last = Some(place.sheet);
+        }
+    }
+    Ok(places)
 }

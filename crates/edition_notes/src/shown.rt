@@ -1,5 +1,5 @@
 // Names as they are shown.
-use edition_look_alikes::has_format;
+use edition_look_alikes::has_unseen;
 use std::alloc::AllocError;
 use std::fmt;
 use std::fmt::Write;
@@ -30,17 +30,8 @@ pub(crate) fn push_spelled(out: &mut String, name: &[u8]) -> Result<(), fmt::Err
 /// A name as it is seen, if it can be shown as it is and has more than ASCII.
 pub(crate) fn as_seen(name: &[u8]) -> Option<&str> {
     let text = from_utf8(name).ok()?;
-    if text.is_ascii() || has_format(name) || text.chars().any(|c| c.is_control()) {
+    if text.is_ascii() || has_unseen(name) {
         return None;
     }
     Some(text)
-}
-
-/// Has a name, if it is UTF-8, a control character beyond ASCII (U+0080 to U+009F)? Pages show these as they are, so they reach a terminal; those of ASCII are
-/// escaped there.
-pub(crate) fn has_control(name: &[u8]) -> bool {
-    match from_utf8(name) {
-        Ok(text) => text.chars().any(|c| c.is_control() && !c.is_ascii()),
-        Err(_) => false,
-    }
 }
