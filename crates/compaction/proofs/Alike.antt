@@ -9,8 +9,8 @@ use Rattle.std.proofs.Math.Dec.{eqb}
 use Rattle.rules.specs.Names.{Bytes, Table, table_of, names_of, is_held}
 use Rattle.rules.specs.Offices.{named, Word, number, name, nameNo, namesOne, wordIf, readBack, ReadAlike}
 use Rattle.rules.specs.Writing.{rec, kindIn}
-use Rattle.laws.specs.NameTable.{Good, good-laid, length-names}
-use Rattle.laws.proofs.NameTable.{held-is}
+use Rattle.laws.specs.NameTable.{Good}
+use Rattle.laws.proofs.NameTable.{held-is, good-laid, length-names}
 use Rattle.rules.specs.Compaction.{occurs, keeps, newNumber, renumberIf, renumbered, keptFrom}
 use Rattle.compaction.proofs.HeldNames.{HeldRec, HeldWords}
 use Rattle.compaction.proofs.Kept.{kept-get, after-names, after-good, poolAfter, tableAfter}

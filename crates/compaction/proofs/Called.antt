@@ -2,7 +2,7 @@
 use Rattle.std.specs.Prelude.{◌≡◌, refl, Bool, false, ◌||◌, List, ℕ, zero, suc, get_or, replicate, Ok}
 use Rattle.std.proofs.Common.{ap, ◌∙◌}
 use Rattle.rules.specs.Base.{got, refused}
-use Rattle.laws.specs.NameTable.{count-is}
+use Rattle.laws.proofs.NameTable.{count-is}
 use Rattle.rules.specs.Compaction.{keeps, renumbered, squeezed, compactIf, compactChecks, compactCall}
 use Rattle.compaction.specs.Told.{marks, Marked}
 use Rattle.compaction.specs.Told.{Squeezed}

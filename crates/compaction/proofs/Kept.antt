@@ -13,8 +13,8 @@ use Rattle.rules.specs.Base.{any, collect, oneIf}
 use Rattle.rules.specs.Calls.{over}
 use Rattle.rules.specs.Names.{Bytes, table_of, names_of, held, used, cut, lengthsGood, sameBytes, distinct}
 use Rattle.laws.specs.Lists.{Every, and_left, and_right}
-use Rattle.laws.specs.NameTable.{Good, good-laid, good-is, good-distinct, length-names, endsOf, count-is}
-use Rattle.laws.proofs.NameTable.{ends-are, lengths-step, lengths-within, used-is, used-within}
+use Rattle.laws.specs.NameTable.{Good, endsOf}
+use Rattle.laws.proofs.NameTable.{ends-are, lengths-step, lengths-within, used-is, used-within, good-laid, good-is, good-distinct, length-names, count-is}
 use Rattle.rules.specs.Compaction.{newNumber, consIf, keptFrom, joined, endsFrom, poolOf, endsOver}
 use Rattle.compaction.proofs.Moves.{ends-many}
 

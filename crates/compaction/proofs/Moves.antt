@@ -25,8 +25,8 @@ use Rattle.rules.specs.Names.{Bytes, table_of, names_of, held, used}
 use Rattle.rules.specs.Base.{collect}
 use Rattle.rules.specs.Calls.{over}
 use Rattle.laws.proofs.Answers.{over-is}
-use Rattle.laws.specs.NameTable.{Good, good-laid, start_at, endsOf, count-is}
-use Rattle.laws.proofs.NameTable.{placed, part_of, part_length, names-step, names-end, start_is, lengths-within, lengths-drop, used-is, used-within, ends-are}
+use Rattle.laws.specs.NameTable.{Good, start_at, endsOf}
+use Rattle.laws.proofs.NameTable.{placed, part_of, part_length, names-step, names-end, start_is, lengths-within, lengths-drop, used-is, used-within, ends-are, good-laid, count-is}
 use Rattle.records.proofs.Stores.{sets-append, sets-before, part-cut}
 use Rattle.compaction.specs.Told.{Squeezed}
 use Rattle.rules.specs.Compaction.{consIf, keptFrom, joined, endsFrom, poolOf, endsOver}

@@ -15,8 +15,8 @@ use Rattle.rules.specs.Trees.{Con}
 use Rattle.rules.specs.Writing.{kindIn}
 use Rattle.laws.specs.Lists.{Every}
 use Rattle.laws.proofs.Lists.{clash}
-use Rattle.laws.specs.NameTable.{Good, good-laid, length-names, count-is}
-use Rattle.laws.proofs.NameTable.{good-given}
+use Rattle.laws.specs.NameTable.{Good}
+use Rattle.laws.proofs.NameTable.{good-given, good-laid, length-names, count-is}
 use Rattle.laws.specs.ReadLists.{Words}
 use Rattle.theorems_offices.proofs.Batches.{four-more}
 use Rattle.theorems_offices.proofs.Offices.{numbering}

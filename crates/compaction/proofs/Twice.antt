@@ -16,8 +16,8 @@ use Rattle.rules.specs.Offices.{namesOne, mapGot, mapCon, nameNo, ReadAlike}
 use Rattle.rules.specs.Writing.{kindIn}
 use Rattle.laws.specs.Lists.{Every, and_right}
 use Rattle.laws.proofs.Lists.{clash}
-use Rattle.laws.specs.NameTable.{Good, good-laid, length-names, count-is}
-use Rattle.laws.proofs.NameTable.{held-is}
+use Rattle.laws.specs.NameTable.{Good}
+use Rattle.laws.proofs.NameTable.{held-is, good-laid, length-names, count-is}
 use Rattle.laws.specs.ReadLists.{Words}
 use Rattle.theorems_offices.proofs.Given.{set_given}
 use Rattle.rules.specs.Compaction.{

@@ -39,7 +39,7 @@ use Rattle.rules.specs.Grammar.{ascii}
 use Rattle.rules.specs.Names.{Bytes, sameBytes, distinct}
 use Rattle.laws.specs.Lists.{Every}
 use Rattle.laws.proofs.Lists.{true≢false}
-use Rattle.laws.specs.NameTable.{same-yes}
+use Rattle.laws.proofs.NameTable.{same-yes}
 use Rattle.edition_certificate_file.specs.declared.Fault.TheVariants.{Line}
 use Rattle.edition_certificate_file.specs.Files.{Kept, lastLine}
 use Rattle.edition_certificate_file.specs.Reading.{

@@ -7,8 +7,8 @@ use Rattle.rules.specs.Base.{Got, got, refused}
 use Rattle.sha2.specs.Sha256.{sha256}
 use Rattle.rules.specs.Names.{Bytes, table_of, tableGood, lengthsGood, names_of, distinct, cut, sameBytes}
 use Rattle.rules.specs.TextReading.{Sheet, sheet, refusedIn, sheetRead}
-use Rattle.laws.specs.NameTable.{Good, same-yes}
-use Rattle.laws.proofs.NameTable.{same-no, same-is}
+use Rattle.laws.specs.NameTable.{Good}
+use Rattle.laws.proofs.NameTable.{same-no, same-is, same-yes}
 use Rattle.laws.proofs.Lists.{true≢false}
 use Rattle.records.specs.Found.{Words32}
 use Rattle.text_columns.proofs.Left.{read-back, read-keeps-good}

@@ -7,8 +7,7 @@ use Rattle.std.proofs.Common.{sym, rules, refl}
 use Rattle.std.proofs.lemmas.Str.{IsUtf8-from_is_utf8, is_utf8-from_IsUtf8}
 use Rattle.caseless.specs.Caseless.{IsCompatibilityMatch}
 use Rattle.rules.specs.Names.{Bytes}
-use Rattle.laws.specs.NameTable.{same-yes}
-use Rattle.laws.proofs.NameTable.{same-no}
+use Rattle.laws.proofs.NameTable.{same-no, same-yes}
 use Rattle.edition_look_alikes.specs.Alike.{alike, isUnseen, hasUnseen}
 
 no-text : (a : Bytes) → (IsUtf8 a → ⊥) → is_utf8 a ≡ false

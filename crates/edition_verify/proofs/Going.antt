@@ -8,8 +8,7 @@ use Rattle.std.proofs.lemmas.List.{at_drop_more, at_drop_all, length-map}
 use Rattle.rules.specs.Base.{any, collect, oneIf}
 use Rattle.rules.specs.Names.{Bytes, sameBytes}
 use Rattle.laws.specs.Lists.{Every}
-use Rattle.laws.specs.NameTable.{same-yes}
-use Rattle.laws.proofs.NameTable.{same-no}
+use Rattle.laws.proofs.NameTable.{same-no, same-yes}
 use Rattle.laws.proofs.Numbers.{one_at_most}
 use Rattle.edition.specs.Files.{files_of}
 use Rattle.edition.specs.declared.model.File.{File}

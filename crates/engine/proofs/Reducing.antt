@@ -11,13 +11,12 @@ use Rattle.rules.specs.Names.{Bytes}
 use Rattle.rules.specs.Trees.{Atom, Product, Names, Con, is_scalar}
 use Rattle.laws.specs.Lists.{Every}
 use Rattle.laws.specs.NameTable.{Good}
-use Rattle.laws.specs.ByteOrder.{numbered-lawful}
-use Rattle.laws.proofs.ByteOrder.{atom-lawful}
+use Rattle.laws.proofs.NameTable.{held-apart}
+use Rattle.laws.proofs.ByteOrder.{atom-lawful, numbered-lawful}
 use Rattle.rules.specs.WellFormed.{goodProduct, goodCon}
 use Rattle.rules.specs.Names.{table_of, names_of}
 use Rattle.theorems_engine.proofs.Laid.{padded-rows}
 use Rattle.theorems_engine.proofs.Agreement.{scalars}
-use Rattle.laws.specs.Given.{held-apart}
 use Rattle.engine_rows.specs.Lines.{paddedRows, laidOut}
 use Rattle.engine_rows.proofs.OnLines.{LaidSo, laid-so}
 use Rattle.engine_rows.specs.Columns.{Known, listed}

@@ -13,8 +13,7 @@ use Rattle.rules.specs.Names.{Bytes, numbered}
 use Rattle.rules.specs.Trees as tree
 use Rattle.rules.specs.Trees.{Factor, ◌↑◌, Product}
 use Rattle.laws.proofs.Ranges.{nought-good}
-use Rattle.laws.specs.Lists.{is-yes}
-use Rattle.laws.proofs.Lists.{is-no}
+use Rattle.laws.proofs.Lists.{is-no, is-yes}
 use Rattle.records.specs.Holds.{atomOf, viewAtom}
 use Rattle.types.specs.Shapes.{factor_of}
 use Rattle.types.specs.declared.Factor as code

@@ -16,8 +16,8 @@ use Rattle.rules.specs.WellFormed.{atomOf, goodOpen, goodCon}
 use Rattle.laws.specs.Lists.{Every, and_left, and_right}
 use Rattle.laws.proofs.Lists.{every-as}
 use Rattle.laws.specs.Order.{Lawful}
-use Rattle.laws.specs.ByteOrder.{numbered-lawful}
-use Rattle.laws.proofs.ByteOrder.{atom-lawful}
+use Rattle.laws.proofs.NameTable.{count-is}
+use Rattle.laws.proofs.ByteOrder.{atom-lawful, numbered-lawful}
 use Rattle.laws.proofs.Ranges.{stored-good}
 use Rattle.laws.specs.GoodProducts.{goodAtom}
 use Rattle.laws.proofs.GoodProducts.{GoodFactor, good-product}
@@ -27,7 +27,6 @@ use Rattle.queries.proofs.GoodOpens.{names-held}
 use Rattle.queries.specs.Scans.{opensIn}
 use Rattle.queries.specs.declared.Kind.TheVariants.{Variables, Parameters}
 use Rattle.rules.specs.Names.{table_of}
-use Rattle.laws.specs.NameTable.{count-is}
 use Rattle.engine_matrix.specs.declared.inner.parts.Columns.{Columns}
 use Rattle.rules.specs.Elimination.{columns, fits, isVariable}
 use Rattle.engine_matrix.specs.Machine.{atomsFrom, namesIn, colsIn}

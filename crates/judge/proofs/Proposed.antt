@@ -15,7 +15,8 @@ use Rattle.rules.specs.Replacing.{find, bindings}
 use Rattle.rules.specs.Trees.{Open, Ty, Binding, ◌≔◌, size}
 use Rattle.rules.specs.WellFormed.{goodTy, goodBinding}
 use Rattle.laws.proofs.Lists.{some≢none}
-use Rattle.laws.specs.NameTable.{Good, good-laid}
+use Rattle.laws.specs.NameTable.{Good}
+use Rattle.laws.proofs.NameTable.{good-laid}
 use Rattle.laws.proofs.Weaker.{ty-weaker}
 use Rattle.records.specs.ByView.{ends-in}
 use Rattle.records.specs.Good as records

@@ -12,7 +12,7 @@ use Rattle.rules.specs.Names.{table_of}
 use Rattle.rules.specs.Trees.{Con, Binding, opensCon}
 use Rattle.laws.proofs.Lists.{every_append}
 use Rattle.laws.proofs.KnownNames.{binding-known}
-use Rattle.laws.specs.NameTable.{good-laid}
+use Rattle.laws.proofs.NameTable.{good-laid}
 use Rattle.records.specs.Found.{Words32}
 use Rattle.records.specs.Good as records
 use Rattle.records.specs.Good.{numbers, holding}

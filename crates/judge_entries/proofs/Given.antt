@@ -16,8 +16,8 @@ use Rattle.rules.specs.Replacing.{find}
 use Rattle.rules.specs.Calls.{Entry, differ, numbersGiven, type_at, bindingOf, entriesGiven}
 use Rattle.laws.proofs.NameTable.{held-is}
 use Rattle.laws.proofs.Checks.{need-passed, first-passed, next-passed}
-use Rattle.laws.specs.Lists.{and_left, is-yes}
-use Rattle.laws.proofs.Lists.{got≢refused, is-no, bound-step, each-parts}
+use Rattle.laws.specs.Lists.{and_left}
+use Rattle.laws.proofs.Lists.{got≢refused, is-no, bound-step, each-parts, is-yes}
 use Rattle.records.specs.Views.{recs, from}
 use Rattle.records.specs.Places.{from-none, from_some}
 use Rattle.records.specs.Found.{Words32}

@@ -8,7 +8,8 @@ use Rattle.rules.specs.Trees.{Ty, Binding}
 use Rattle.rules.specs.Names.{table_of}
 use Rattle.rules.specs.Replacing.{find}
 use Rattle.rules.specs.Calls.{Entry, differ, entriesGiven}
-use Rattle.laws.specs.NameTable.{Good, good-laid}
+use Rattle.laws.specs.NameTable.{Good}
+use Rattle.laws.proofs.NameTable.{good-laid}
 use Rattle.std.proofs.lemmas.Bool.{not-false}
 use Rattle.laws.proofs.Lists.{got≢refused}
 use Rattle.records.specs.Found.{Words32}

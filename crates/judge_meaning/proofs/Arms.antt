@@ -6,8 +6,7 @@ use Rattle.rules.specs.Meaning.{means}
 use Rattle.rules.specs.Plain.{plain}
 use Rattle.rules.specs.Trees as tree
 use Rattle.rules.specs.Trees.{Product, Names, Ty, opened, basic, dim, fn, struct, list, Tys, nil, cons, noFields, count, ty-dec}
-use Rattle.laws.specs.Lists.{is-yes}
-use Rattle.laws.proofs.Lists.{true≢false, yes-is, is-no}
+use Rattle.laws.proofs.Lists.{true≢false, yes-is, is-no, is-yes}
 use Rattle.records.proofs.Walks.{open-there, basic-there}
 use Rattle.records.specs.Holds.{openOf, viewOpen, basicOf, viewBasic}
 use Rattle.records.specs.declared.Open as names

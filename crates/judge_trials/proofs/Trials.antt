@@ -18,7 +18,8 @@ use Rattle.rules.specs.declared.Refusal.{Refusal}
 use Rattle.laws.proofs.KeepsGood as laws
 use Rattle.laws.proofs.KnownNames.{con-known}
 use Rattle.laws.proofs.Lists.{true≢false, clash}
-use Rattle.laws.specs.NameTable.{Good, good-laid}
+use Rattle.laws.specs.NameTable.{Good}
+use Rattle.laws.proofs.NameTable.{good-laid}
 use Rattle.laws.proofs.Size.{size-con}
 use Rattle.laws.proofs.Sized.{sized-kept, sized-long, sized-deep}
 use Rattle.products.proofs.Held.{law}

@@ -11,8 +11,8 @@ use Rattle.rules.specs.Names.{Bytes, numbered}
 use Rattle.rules.specs.Contents.{variablesIn, parametersIn, among, unmixed}
 use Rattle.rules.specs.Views.{variable, parameter}
 use Rattle.std.proofs.lemmas.Bool.{not-true}
-use Rattle.laws.specs.Lists.{is-yes, in_head, all-is}
-use Rattle.laws.proofs.Lists.{true≢false, yes-is, is_all, any-is, is_any, collect-from, collect-to}
+use Rattle.laws.specs.Lists.{in_head, all-is}
+use Rattle.laws.proofs.Lists.{true≢false, yes-is, is_all, any-is, is_any, collect-from, collect-to, is-yes}
 
 -- ══ Two lists as one ══
 

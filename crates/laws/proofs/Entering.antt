@@ -57,8 +57,8 @@ use Rattle.rules.specs.declared.Was.TheVariants.{New, Known}
 use Rattle.laws.proofs.Checks.{need-passed, first-passed, next-passed}
 use Rattle.laws.specs.Lists.{and_left, and_right}
 use Rattle.laws.proofs.Lists.{got≢refused, same-number}
-use Rattle.laws.specs.NameTable.{endsOf, start_at, same-yes, Laid, length-names, Good, good-laid, good-distinct, good-is}
-use Rattle.laws.proofs.NameTable.{lengths-step, same-no, used-is, used-within, given-good, good-given, Asked, search-any, search-found, room-is, new_is}
+use Rattle.laws.specs.NameTable.{endsOf, start_at, Laid, Good}
+use Rattle.laws.proofs.NameTable.{lengths-step, same-no, used-is, used-within, given-good, good-given, Asked, search-any, search-found, room-is, new_is, same-yes, length-names, good-laid, good-distinct, good-is}
 use Rattle.laws.specs.Entering.{SameFront}
 
 -- ══ One end more ══

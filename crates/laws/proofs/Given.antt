@@ -1,5 +1,4 @@
--- What follows from the definitions of specs/Given: what the checks at entry leave to know: how much was lent, that the table is good, and that a set that
--- was read is well formed and no longer than its words.
+-- What the checks at entry leave to know: how much was lent, that the table is good, and that a set that was read is well formed and no longer than its words.
 use Rattle.std.proofs.Math.Path.{◌≡◌, refl, ap, sym}
 use Rattle.std.proofs.Common.{subst, arith}
 use Rattle.std.specs.Prelude.{List, [], ◌∷◌, ℕ, zero, suc, ◌*◌, ◌≤◌}

@@ -55,6 +55,10 @@ pub yes-is : {A : Type 0} (d : Dec A) → is_yes d ≡ true → A
 yes-is (yes a) e = a
 yes-is (no f) e = absurd (true≢false (sym e))
 
+pub is-yes : {A : Type 0} (d : Dec A) → A → is_yes d ≡ true
+is-yes (yes a) b = refl
+is-yes (no f) b = absurd (f b)
+
 pub no-is : {A : Type 0} (d : Dec A) → is_yes d ≡ false → A → ⊥
 no-is (yes a) e b = true≢false e
 no-is (no f) e b = f b

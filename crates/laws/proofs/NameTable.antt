@@ -1,11 +1,12 @@
 -- What follows from the definitions of specs/NameTable: what a table of names holds: its ends and starts, its names one by one, and the bytes in use.
 use Rattle.std.specs.Prelude.{◌≡◌, Bool, true, false, not, ◌&&◌, ◌||◌}
 use Rattle.std.proofs.Math.Path.{refl, sym, ap, ap₂}
-use Rattle.std.proofs.Common.{◌∙◌, arith, length-drop, drop_of_length-le, drop-cons, take-take, take-add, drop_at, length-take-le}
+use Rattle.std.proofs.Common.{◌∙◌, arith, length-take, length-drop, drop_of_length-le, drop-cons, take-take, take-add, drop_at, length-take-le}
 use mathlib.Core.List.{List, [], ◌∷◌, ◌++◌}
 use Rattle.std.proofs.Math.Option.{some}
 use Prim.Native.Nat.{ℕ, zero, suc, ◌+◌, ◌-◌, ◌≤◌, ◌<◌}
 use Rattle.std.proofs.Math.Decide.{ℕ_discrete}
+use Rattle.std.proofs.Math.Bool.{or-true}
 use borrow.Author.Tests.{ltb-true, leb-true, lt-ltb, le-leb}
 use Rattle.std.proofs.Math.Dec.{leb, ltb}
 use Rattle.std.proofs.Math.ListN.{length, take, drop, get_or, set}
@@ -21,6 +22,9 @@ use Rattle.rules.specs.Names.{
   used,
   lengthsGood,
   sameBytes,
+  distinct,
+  numbered,
+  numbersOf,
   tableGood,
   tableGiven,
   lentTable,
@@ -32,9 +36,93 @@ use Rattle.rules.specs.Names.{
 }
 use Rattle.rules.specs.declared.Was.TheVariants.{New}
 use Rattle.laws.specs.Lists.{and_left, and_right}
-use Rattle.laws.proofs.Lists.{is-no, yes-is}
+use Rattle.laws.proofs.Lists.{is-no, is-yes, yes-is}
 use Rattle.laws.proofs.Checks.{need-passed, first-passed, next-passed}
-use Rattle.laws.specs.NameTable.{same-yes, endsOf, start_at, length-ends, Laid, length-names, any_at, Good}
+use Rattle.laws.specs.NameTable.{endsOf, start_at, Laid, Good}
+use Rattle.laws.specs.Order.{Tells}
+use Rattle.laws.proofs.ByteOrder.{bytes_same}
+
+-- ══ What is known of a table ══
+
+module _ (a b : Bytes) where
+  pub same-yes : a ≡ b → sameBytes a b ≡ true
+  unfolding sameBytes
+  same-yes e = is-yes (list-dec ℕ_discrete a b) e
+
+pub cut-length : (at : ℕ) (es pool : List ℕ) → length (cut at es pool) ≡ length es
+unfolding cut
+cut-length at [] pool = refl
+cut-length at (e ∷ es) pool = ap suc (cut-length e es pool)
+
+pub count-is : (pool table : List ℕ) → (table_of pool table).count ≡ get_or table 0 0
+unfolding table_of
+count-is pool table = refl
+
+module _ (table : List ℕ) (lent : 257 ≤ length table) (few : get_or table 0 0 ≤ 256) where
+  pub length-ends : length (endsOf table) ≡ get_or table 0 0
+  unfolding endsOf
+  length-ends = simp (length-take, length-drop) (omega arith)
+
+module _ {pool table : List ℕ} (laid : Laid pool table) where
+  pub length-names : length (names_of (table_of pool table)) ≡ get_or table 0 0
+  unfolding names_of table_of endsOf
+  length-names = cut-length 0 (endsOf table) (take 8192 pool) ∙ length-ends table laid.words laid.few
+
+-- ══ Distinct names ══
+
+pub any_at : (p : Bytes → Bool) (ns : List Bytes) (j : ℕ) → j < length ns → p (get_or ns j []) ≡ true → any p ns ≡ true
+unfolding any
+any_at p [] j h t = absurd (omega arith)
+any_at p (n ∷ ns) zero h t = rw t
+any_at p (n ∷ ns) (suc j) h t = ap (λ (b : Bool). p n || b) (any_at p ns j (omega arith) t) ∙ or-true (p n)
+
+-- two numbers with one name are one number
+pub distinct-same : (ns : List Bytes) → distinct ns ≡ true → (i j : ℕ) → i < length ns → j < length ns → get_or ns i [] ≡ get_or ns j [] → i ≡ j
+unfolding distinct
+distinct-same [] d i j h k e = absurd (omega arith)
+distinct-same (n ∷ ns) d zero zero h k e = refl
+distinct-same (n ∷ ns) d zero (suc j) h k e =
+    let a = any_at (sameBytes n) ns j (omega arith) (same-yes n (get_or ns j []) e) in
+    let z : false ≡ true = sym (ap not a) ∙ and_left (not (any (sameBytes n) ns)) _ d in
+    cc
+distinct-same (n ∷ ns) d (suc i) zero h k e =
+    let a = any_at (sameBytes n) ns i (omega arith) (same-yes n (get_or ns i []) (sym e)) in
+    let z : false ≡ true = sym (ap not a) ∙ and_left (not (any (sameBytes n) ns)) _ d in
+    cc
+distinct-same (n ∷ ns) d (suc i) (suc j) h k e =
+    ap suc (distinct-same ns (and_right (not (any (sameBytes n) ns)) _ d) i j (omega arith) (omega arith) e)
+
+-- the order tells held numbers apart
+pub numbered-tells : (names : List Bytes) → distinct names ≡ true → Tells (λ i. i < length names) (numbered names).order
+unfolding numbered
+numbered-tells names d = record { same = λ i j h k e. distinct-same names d i j h k (bytes_same (get_or names i []) (get_or names j []) e) }
+
+-- the test, in its three parts
+pub good-is : (pool table : List ℕ) → tableGood (table_of pool table)
+    ≡ (leb (get_or table 0 0) 256 && lengthsGood 0 (endsOf table) && distinct (names_of (table_of pool table)))
+unfolding tableGood table_of endsOf
+good-is pool table = refl
+
+module _ {pool table : List ℕ} (g : Good pool table) where
+  tested : leb (get_or table 0 0) 256 && lengthsGood 0 (endsOf table) && distinct (names_of (table_of pool table)) ≡ true
+  tested = sym (good-is pool table) ∙ g.good
+
+  pub good-laid : Laid pool table
+  good-laid =
+      let two = and_left (leb (get_or table 0 0) 256 && lengthsGood 0 (endsOf table)) _ tested in
+      record {
+        bytes = g.bytes;
+        words = g.words;
+        few = leb-true (get_or table 0 0) 256 (and_left (leb (get_or table 0 0) 256) _ two);
+        rising = and_right (leb (get_or table 0 0) 256) _ two;
+      }
+
+  pub good-distinct : distinct (names_of (table_of pool table)) ≡ true
+  good-distinct = and_right (leb (get_or table 0 0) 256 && lengthsGood 0 (endsOf table)) _ tested
+
+  -- of held numbers, the order says equal exactly where the numbers are equal
+  pub held_tells : Tells (λ i. i < get_or table 0 0) (numbered (names_of (table_of pool table))).order
+  held_tells = rw (length-names good-laid) at (numbered-tells (names_of (table_of pool table)) good-distinct)
 
 -- ══ Equal names ══
 
@@ -317,3 +405,10 @@ module _ {pool table : List ℕ} (laid : Laid pool table) (name : Bytes) where
     pool = take free pool ++ name ++ drop (free + length name) pool;
     table = set (set table 0 (suc (get_or table 0 0))) (suc (get_or table 0 0)) (free + length name);
   }) (used-is table laid.words laid.few)
+
+-- the order of the numbers of a table that passed its checks tells them apart
+pub held-apart : (pool table : List ℕ) → Good pool table → Tells (λ n. is_held (table_of pool table) n ≡ true) (numbersOf (table_of pool table)).order
+held-apart pool table g = record { same = λ i j h k. (held_tells g).same i j (below i h) (below j k) }
+  where
+    below : (i : ℕ) → is_held (table_of pool table) i ≡ true → i < get_or table 0 0
+    below i h = rw (count-is pool table) at (ltb-true i (table_of pool table).count h)

@@ -66,8 +66,8 @@ use Rattle.rules.specs.Rounds.{
   trySatisfy,
 }
 use Rattle.std.proofs.lemmas.Bool.{not-true}
-use Rattle.laws.specs.Lists.{and_left, and_right, is-yes, in_head}
-use Rattle.laws.proofs.Lists.{true≢false, some≢none, yes-is, any-is, is_any, one-step, Origin, collect-from, collect-to, map-from}
+use Rattle.laws.specs.Lists.{and_left, and_right, in_head}
+use Rattle.laws.proofs.Lists.{true≢false, some≢none, yes-is, any-is, is_any, one-step, Origin, collect-from, collect-to, map-from, is-yes}
 use Rattle.laws.specs.RuleCases.{parts}
 
 module _ {N : Type 0} where

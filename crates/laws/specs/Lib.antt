@@ -3,8 +3,6 @@ pub mod Twos
 pub mod Fractions
 pub mod Exact
 pub mod Answers
-pub mod Given
-pub mod ByteOrder
 pub mod NameTable
 pub mod Entering
 pub mod Sorted

@@ -5,7 +5,7 @@ use Rattle.std.proofs.Common.{inl, inr}
 use Rattle.std.proofs.Math.Bool.{true, false}
 use mathlib.Core.List.Memᴰ
 use mathlib.Core.List.{List, [], ◌∷◌, Memᴰ}
-use Rattle.rules.specs.Base.{is_yes, all}
+use Rattle.rules.specs.Base.{all}
 pub use Rattle.std.proofs.lemmas.Bool.{not-true, not-false}
 
 -- both tests pass
@@ -16,10 +16,6 @@ and_left false b h = h
 pub and_right : (a b : Bool) → a && b ≡ true → b ≡ true
 and_right true b h = h
 and_right false b h = cc
-
-pub is-yes : {A : Type 0} (d : Dec A) → A → is_yes d ≡ true
-is-yes (yes a) b = refl
-is-yes (no f) b = absurd (f b)
 
 module _ {A : Type 0} where
   pub in_head : {a : A} {xs : List A} → Memᴰ a (a ∷ xs)

@@ -7,8 +7,8 @@ use Rattle.rules.specs.Base.{Got, got, refused}
 use Rattle.rules.specs.Names.{Bytes, PoolPart, table_of, nameAsked, start_in, partFrom, partAsked}
 use Rattle.rules.specs.Numbers.{refusalIn}
 use Rattle.laws.proofs.Lists.{clash, same-number}
-use Rattle.laws.specs.NameTable.{good-laid, start_at}
-use Rattle.laws.proofs.NameTable.{name-asked, start-in}
+use Rattle.laws.specs.NameTable.{start_at}
+use Rattle.laws.proofs.NameTable.{name-asked, start-in, good-laid}
 use Rattle.names.proofs.Asked.{passed-held}
 use Rattle.names.specs.Told.{refusalOf}
 use Rattle.calls_defined.specs.Saying.{word, saidAs, refusedAs}

@@ -11,7 +11,8 @@ use Rattle.rules.specs.Base.{all, collect, sum_of}
 use Rattle.rules.specs.Trees.{Con, opensCon, sizeCon, depthCon}
 use Rattle.rules.specs.WellFormed.{goodCon}
 use Rattle.rules.specs.Writing.{words, writeCon}
-use Rattle.laws.specs.NameTable.{Good, good-laid}
+use Rattle.laws.specs.NameTable.{Good}
+use Rattle.laws.proofs.NameTable.{good-laid}
 use Rattle.laws.specs.Nesting.{Within}
 use Rattle.laws.proofs.Nesting.{most}
 use Rattle.laws.proofs.KnownNames.{set_known}

@@ -9,9 +9,8 @@ use Rattle.std.specs.Ordering.{nat_cmp, ordering_then}
 use Rattle.std.specs.Cmp.Lexicographic.{slice_cmp}
 use Rattle.rules.specs.Names.{Bytes, then, orderBytes, sameBytes}
 use Rattle.laws.proofs.Order.{self}
-use Rattle.laws.specs.ByteOrder.{bytes_same, bytes-lawful}
-use Rattle.laws.specs.NameTable.{same-yes}
-use Rattle.laws.proofs.NameTable.{same-no}
+use Rattle.laws.proofs.ByteOrder.{bytes_same, bytes-lawful}
+use Rattle.laws.proofs.NameTable.{same-no, same-yes}
 use Rattle.std.specs.declared.cmp.Ordering as std
 use Rattle.std.specs.declared.cmp.Ordering.TheVariants.{Less, Equal, Greater}
 use Rattle.names.specs.Told.{toldOrder}

@@ -26,9 +26,9 @@ use Rattle.rules.specs.Names.{
 use Rattle.rules.specs.declared.Was.{Was}
 use Rattle.rules.specs.declared.Was.TheVariants.{New, Known}
 use Rattle.laws.proofs.Order.{self}
-use Rattle.laws.specs.ByteOrder.{bytes-lawful}
-use Rattle.laws.specs.NameTable.{Good, good-laid, length-names, good-distinct, distinct-same, held_tells, start_at}
-use Rattle.laws.proofs.NameTable.{good-given, Asked, asked-name, name-asked, search-none, free-is, part_of, start-in, part_length, name-is, placed, new_is}
+use Rattle.laws.proofs.ByteOrder.{bytes-lawful}
+use Rattle.laws.specs.NameTable.{Good, start_at}
+use Rattle.laws.proofs.NameTable.{good-given, Asked, asked-name, name-asked, search-none, free-is, part_of, start-in, part_length, name-is, placed, new_is, good-laid, length-names, good-distinct, distinct-same, held_tells}
 use Rattle.laws.specs.Entering.{SameFront}
 use Rattle.laws.proofs.Entering.{
   Enters,

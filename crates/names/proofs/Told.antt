@@ -4,7 +4,7 @@ use Rattle.std.specs.Prelude.{◌⊎◌, ◌<◌}
 use Rattle.std.specs.Ordering.{nat_cmp}
 use Rattle.std.proofs.Common.{inl, inr, arith}
 use Rattle.std.proofs.lemmas.Bool.{cases_order, le-ltb, lt-ltb}
-use Rattle.laws.specs.ByteOrder.{compare-equal, compare-below, compare-above}
+use Rattle.laws.proofs.ByteOrder.{compare-equal, compare-below, compare-above}
 use Prim.Native.Nat.{ℕ, compare}
 use Rattle.names.specs.Told.{toldOrder}
 

@@ -20,8 +20,7 @@ use Rattle.rules.specs.Values.{ProductValue, blank, kind_of, number_in, atomIn, 
 use Rattle.rules.specs.WellFormed.{goodProduct}
 use Rattle.laws.specs.Lists.{Every}
 use Rattle.laws.specs.Order.{Lawful}
-use Rattle.laws.specs.ByteOrder.{numbered-lawful}
-use Rattle.laws.proofs.ByteOrder.{atom-lawful}
+use Rattle.laws.proofs.ByteOrder.{atom-lawful, numbered-lawful}
 use Rattle.laws.specs.Sorted.{Sorted}
 use Rattle.laws.proofs.Sorted.{sooner}
 use Rattle.laws.proofs.GoodProducts.{GoodFactor, GoodProduct, good-product, product-good, inverse-good}

@@ -22,7 +22,8 @@ use Rattle.rules.specs.Calls.{
   closedCall,
   variablesCall,
 }
-use Rattle.laws.specs.NameTable.{Good, good-laid}
+use Rattle.laws.specs.NameTable.{Good}
+use Rattle.laws.proofs.NameTable.{good-laid}
 use Rattle.laws.proofs.Checks.{passed, stopped}
 use Rattle.laws.proofs.Lists.{same-number}
 use Rattle.laws.specs.Lists.{Every}

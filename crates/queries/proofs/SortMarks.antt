@@ -11,8 +11,9 @@ use Rattle.rules.specs.Contents.{sort}
 use Rattle.rules.specs.Calls.{over}
 use Rattle.rules.specs.Names.{table_of, names_of}
 use Rattle.laws.proofs.Lists.{true≢false}
-use Rattle.laws.specs.ByteOrder.{numbered-lawful}
-use Rattle.laws.specs.NameTable.{Good, held_tells}
+use Rattle.laws.proofs.ByteOrder.{numbered-lawful}
+use Rattle.laws.proofs.NameTable.{held_tells}
+use Rattle.laws.specs.NameTable.{Good}
 use Rattle.laws.specs.Order.{Lawful, Tells}
 use Rattle.laws.proofs.Order.{after}
 use Rattle.laws.specs.Lists.{Every}

@@ -17,11 +17,6 @@ pub four : (d d₁ d₂ d₃ d₄ : List ℕ) (i k a b c : ℕ) → d₁ ≡ set
 unfolding words
 four d d₁ d₂ d₃ d₄ i k a b c p q r t = cc (add-one i, add-two i, add-three i)
 
--- a turn of a copying loop: what is left to store falls by one
-pub copy_step : (v d d' : List ℕ) (i o t : ℕ) {R : List ℕ} → i < t → t ≤ length v → d' ≡ set d o (get_or v i 0)
-    → sets d o (slice i t v) ≡ R → sets d' (o + 1) (slice (i + 1) t v) ≡ R
-copy_step v d d' i o t lt le e h = rw (add-one o, add-one i, e) (sym (ap (sets d o) (slice-cons i t v 0 lt le)) ∙ h)
-
 -- one run after another is one run
 pub sets-append : (a b d : List ℕ) (i : ℕ) → sets d i (a ++ b) ≡ sets (sets d i a) (i + length a) b
 sets-append [] b d i = rw (add-zero i)

@@ -10,7 +10,7 @@ use Rattle.rules.specs.Writing.{Rec, words}
 use Rattle.rules.specs.declared.Refusal.{Refusal}
 use Rattle.laws.proofs.Lists.{every_append}
 use Rattle.laws.proofs.KnownNames.{ty-known}
-use Rattle.laws.specs.NameTable.{good-laid}
+use Rattle.laws.proofs.NameTable.{good-laid}
 use Rattle.names.specs.declared.tables.NameTable.{NameTable}
 use Rattle.records.specs.Found.{Words32}
 use Rattle.records.specs.Good.{numbers, holding}

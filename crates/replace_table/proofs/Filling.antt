@@ -16,7 +16,8 @@ use Rattle.rules.specs.Names.{Bytes, numbered, table_of, is_held}
 use Rattle.rules.specs.Replacing.{find, bindings}
 use Rattle.rules.specs.Trees.{Open, var, quant, par, Names, Ty, Binding, ◌≔◌, size}
 use Rattle.rules.specs.WellFormed.{goodTy, goodBinding}
-use Rattle.laws.specs.NameTable.{Good, good-laid}
+use Rattle.laws.specs.NameTable.{Good}
+use Rattle.laws.proofs.NameTable.{good-laid}
 use Rattle.records.specs.Holds.{Holds}
 use Rattle.records.specs.Views.{viewAt}
 use Rattle.records.specs.declared.View.TheVariants as view

@@ -15,8 +15,8 @@ use Rattle.rules.specs.Schemes.{scheme, concrete, schemeLimited, renamed, rename
 use Rattle.rules.specs.Trees as tree
 use Rattle.rules.specs.Trees.{Names, Ty, opens}
 use Rattle.rules.specs.Writing.{word_of, writeScheme}
-use Rattle.laws.specs.Lists.{All, in_head, is-yes}
-use Rattle.laws.proofs.Lists.{bracket, is-no}
+use Rattle.laws.specs.Lists.{All, in_head}
+use Rattle.laws.proofs.Lists.{bracket, is-no, is-yes}
 use Rattle.laws.specs.NameTable.{Good}
 use Rattle.products.proofs.Held.{law}
 use Rattle.schemes_renaming.specs.Places.{first_equal, all_of}

@@ -14,7 +14,7 @@ use Rattle.rules.specs.Trees as tree
 use Rattle.rules.specs.Trees.{Ty, opens, size}
 use Rattle.laws.proofs.Checks.{need-passed}
 use Rattle.laws.proofs.KnownNames.{ty-known}
-use Rattle.laws.specs.NameTable.{good-laid}
+use Rattle.laws.proofs.NameTable.{good-laid}
 use Rattle.names.specs.declared.tables.NameTable.{NameTable}
 use Rattle.records.specs.Found.{Words32}
 use Rattle.records.specs.Good.{Chain, numbers, holding, GoodBound, GoodScheme}

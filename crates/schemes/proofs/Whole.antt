@@ -18,7 +18,7 @@ use Rattle.rules.specs.declared.Refusal.{Refusal}
 use Rattle.laws.specs.GoodProducts.{goodAtom}
 use Rattle.laws.proofs.GoodProducts.{atom-tells}
 use Rattle.laws.proofs.Lists.{bracket}
-use Rattle.laws.specs.Given.{held-apart}
+use Rattle.laws.proofs.NameTable.{held-apart}
 use Rattle.laws.specs.NameTable.{Good}
 use Rattle.laws.specs.Order.{Tells}
 use Rattle.laws.proofs.Weaker.{ty-weaker}

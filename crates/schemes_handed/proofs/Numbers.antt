@@ -8,8 +8,8 @@ use Rattle.rules.specs.Names.{table_of, is_held}
 use mathlib.Core.List.{Memᴰ}
 use Rattle.std.proofs.lemmas.Bool.{not-true, not-false}
 use Rattle.laws.specs.Lists.{All, all-is, in_head}
-use Rattle.laws.specs.NameTable.{Good, good-laid}
-use Rattle.laws.proofs.NameTable.{held-is}
+use Rattle.laws.specs.NameTable.{Good}
+use Rattle.laws.proofs.NameTable.{held-is, good-laid}
 
 module _ (pool table xs : List ℕ) where
   abbrev pub under : ℕ → Bool

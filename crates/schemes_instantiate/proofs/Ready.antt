@@ -13,7 +13,7 @@ use Rattle.rules.specs.Trees.{Ty, Open, size}
 use Rattle.rules.specs.Writing.{Rec, words, writeTy, writeBound}
 use Rattle.rules.specs.declared.Refusal.{Refusal}
 use Rattle.rules.specs.declared.Refusal.TheVariants.{WrongCount}
-use Rattle.laws.specs.NameTable.{good-laid}
+use Rattle.laws.proofs.NameTable.{good-laid}
 use Rattle.laws.proofs.Size.{size-ty}
 use Rattle.schemes_renaming.specs.Places.{own}
 use Rattle.records.proofs.Buffers.{stored}

@@ -11,7 +11,7 @@ use Rattle.rules.specs.Trees.{Ty, Open, depth}
 use Rattle.rules.specs.Writing.{writeTy, writeBound}
 use Rattle.rules.specs.declared.Refusal.{Refusal}
 use Rattle.rules.specs.declared.Refusal.TheVariants.{TooLarge}
-use Rattle.laws.specs.NameTable.{good-laid}
+use Rattle.laws.proofs.NameTable.{good-laid}
 use Rattle.schemes_renaming.proofs.Sizes.{renamed-deep}
 use Rattle.records.specs.declared.View.TheVariants as view
 use Rattle.types.specs.declared.writer.Writer.{Writer}

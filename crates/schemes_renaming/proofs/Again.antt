@@ -20,8 +20,8 @@ use Rattle.rules.specs.Replacing.{asProduct, replaceTy}
 use Rattle.rules.specs.Schemes.{Scheme, scheme, renamed, renamedBounds, back, quantify, put_back, instantiate, schemeLimited}
 use Rattle.rules.specs.WellFormed.{goodOpen, goodTy}
 use Rattle.laws.specs.Order.{Lawful, Tells}
-use Rattle.laws.specs.Lists.{All, all_nil, all_cons, in_head, is-yes}
-use Rattle.laws.proofs.Lists.{some≢none, got≢refused}
+use Rattle.laws.specs.Lists.{All, all_nil, all_cons, in_head}
+use Rattle.laws.proofs.Lists.{some≢none, got≢refused, is-yes}
 use Rattle.laws.proofs.Sized.{sized-kept, sized-deep, sized_same, sized-small}
 use Rattle.laws.specs.GoodProducts.{goodAtom}
 use Rattle.laws.proofs.KeepsGood.{GoodTy, ty_kept}

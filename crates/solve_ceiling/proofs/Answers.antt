@@ -6,10 +6,10 @@ use Rattle.rules.specs.Trees.{opensCon}
 use Rattle.rules.specs.Names.{table_of, names_of}
 use Rattle.rules.specs.Calls.{aloneGiven, setGiven, setCall}
 use Rattle.rules.specs.Ceiling.{Ceiling, variablesOf, ceilingFor, ceilingCall}
-use Rattle.laws.specs.ByteOrder.{numbered-lawful}
+use Rattle.laws.proofs.ByteOrder.{numbered-lawful}
+use Rattle.laws.proofs.NameTable.{good-laid, held_tells}
 use Rattle.laws.proofs.Checks.{passed, stopped}
 use Rattle.laws.proofs.Lists.{clash}
-use Rattle.laws.specs.NameTable.{good-laid, held_tells}
 use Rattle.records.specs.Found.{Words32}
 use Rattle.records.specs.Good.{numbers}
 use Rattle.records.proofs.Whole.{entry-good, set_is}

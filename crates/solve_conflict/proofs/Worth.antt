@@ -11,9 +11,9 @@ use Rattle.rules.specs.Conflicts.{Line, linesFrom, conflicting, leaveOut, confli
 use Rattle.rules.specs.Names.{Table, table_of, tableGood, numbersOf, is_held, lentTable}
 use Rattle.rules.specs.Trees.{Names, Con, opensCon}
 use Rattle.rules.specs.WellFormed.{goodCon}
-use Rattle.laws.specs.ByteOrder.{numbered-lawful}
+use Rattle.laws.proofs.ByteOrder.{numbered-lawful}
+use Rattle.laws.proofs.NameTable.{held-apart}
 use Rattle.laws.proofs.Checks.{need-passed}
-use Rattle.laws.specs.Given.{held-apart}
 use Rattle.laws.proofs.Given.{lent-long, set-read}
 use Rattle.laws.specs.Lists.{all-is, and_left}
 use Rattle.laws.proofs.Lists.{bound-step, One, one-step, some≢none, map-to}

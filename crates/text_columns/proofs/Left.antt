@@ -11,8 +11,9 @@ use Rattle.rules.specs.Writing.{words, writeCon}
 use Rattle.rules.specs.Grammar.{lines_of, inFront}
 use Rattle.rules.specs.TextReading.{Sofar, Told, told, refusedAt, lineRead, Sheet, sheet, refusedIn, with, nextLine, lines_read, unread, sheetRead}
 use Rattle.laws.specs.Lists.{Every}
+use Rattle.laws.proofs.NameTable.{good-laid}
 use Rattle.laws.proofs.Lists.{bound-step, every-as, every_append}
-use Rattle.laws.specs.NameTable.{Good, good-laid}
+use Rattle.laws.specs.NameTable.{Good}
 use Rattle.laws.specs.ReadLists.{Writable}
 use Rattle.laws.proofs.ReadLists.{read_set, words_back}
 use Rattle.text_laws.proofs.Entry.{entry}

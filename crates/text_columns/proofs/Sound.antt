@@ -20,15 +20,14 @@ use Rattle.rules.specs.Grammar.{TysAt, nilAt, consAt, FieldsAt, noneAt, field_at
 use Rattle.rules.specs.TextReading.{Sofar, Told, told, refusedAt, Step, onward, give, placed, counted, enterName, entered, named, openNamed, atomNamed}
 use Rattle.rules.specs.TextReading.{powerOf, namesSofar, multiplied, factorsOf, productOf, rises, ty_of, tys_of, fields_of, conOf, meant, lineRead}
 use Rattle.rules.specs.TextReading.{Sheet, sheet, refusedIn, with, nextLine, lines_read, unread, sheetRead, ◌>>=◌, ◌>>◌}
-use Rattle.laws.specs.ByteOrder.{numbered-lawful}
-use Rattle.laws.proofs.ByteOrder.{atom-lawful}
+use Rattle.laws.proofs.ByteOrder.{atom-lawful, numbered-lawful}
 use Rattle.laws.proofs.Gcd.{is-gcd, coprime}
 use Rattle.laws.specs.GoodProducts.{goodAtom}
 use Rattle.laws.proofs.GoodProducts.{GoodFactor, good-product, product-good, multiply_good}
 use Rattle.laws.specs.Lists.{Every, and_left, and_right}
 use Rattle.laws.proofs.Lists.{and_both}
-use Rattle.laws.specs.NameTable.{Good, good-laid, length-names}
-use Rattle.laws.proofs.NameTable.{held-is}
+use Rattle.laws.specs.NameTable.{Good}
+use Rattle.laws.proofs.NameTable.{held-is, good-laid, length-names}
 use Rattle.laws.specs.Order.{Lawful}
 use Rattle.laws.proofs.Ranges.{is-good, neg-good, is-stored}
 use Rattle.laws.proofs.ReadLists.{read_set, words_back}

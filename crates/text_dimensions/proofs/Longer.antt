@@ -6,7 +6,8 @@ use Rattle.std.proofs.Math.ListN.{get_or-append}
 use Rattle.rules.specs.Names.{Bytes, orderBytes, numbered, table_of, names_of}
 use Rattle.rules.specs.Trees.{var, quant, par, Atom, free, base, orderOpen, orderAtom}
 use Rattle.rules.specs.WellFormed.{goodOpen}
-use Rattle.laws.specs.NameTable.{Good, good-laid, length-names}
+use Rattle.laws.specs.NameTable.{Good}
+use Rattle.laws.proofs.NameTable.{good-laid, length-names}
 use Rattle.laws.specs.GoodProducts.{goodAtom}
 use Rattle.products.specs.Told.{heldIn, factorAt, atomAt}
 use Rattle.products.specs.Held.{Well}

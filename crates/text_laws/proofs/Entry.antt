@@ -6,8 +6,8 @@ use Rattle.rules.specs.Names.{Bytes, Entered, table_of, names_of, enterChecks, e
 use Rattle.rules.specs.TextReading.{newIn, enterName}
 use Rattle.rules.specs.declared.Was.{Was}
 use Rattle.rules.specs.declared.Was.TheVariants.{Known}
-use Rattle.laws.specs.NameTable.{Good, good-laid}
-use Rattle.laws.proofs.NameTable.{good-given, new_is}
+use Rattle.laws.specs.NameTable.{Good}
+use Rattle.laws.proofs.NameTable.{good-given, new_is, good-laid}
 use Rattle.laws.proofs.Entering.{Enters, Case, stopped, known, full, new, enter-case, count-with, names-with, good-with, pool-behind, table-behind}
 
 pub record Entry (pool table pool' table' : List ℕ) (a : Got (ℕ × Was)) : Type 0 where

@@ -48,14 +48,13 @@ use Rattle.rules.specs.declared.Was.TheVariants.{Known}
 use Rattle.std.proofs.lemmas.Bool.{not-true}
 use Rattle.laws.specs.Lists.{Every, and_left, and_right, all-is, all-every}
 use Rattle.laws.proofs.Lists.{every-right}
-use Rattle.laws.specs.NameTable.{Good, good-laid, length-names, start_at, distinct-same, good-distinct}
-use Rattle.laws.proofs.NameTable.{placed, name-is, part_length, held-is, search-none, search-any, search-found}
+use Rattle.laws.specs.NameTable.{Good, start_at}
+use Rattle.laws.proofs.NameTable.{placed, name-is, part_length, held-is, search-none, search-any, search-found, good-laid, length-names, distinct-same, good-distinct}
 use Rattle.laws.proofs.Fractions.{lowest-terms}
 use Rattle.laws.proofs.Ranges.{good-lowest}
 use Rattle.laws.specs.Sorted.{Sorted}
 use Rattle.laws.proofs.Sorted.{sorted}
-use Rattle.laws.specs.ByteOrder.{numbered-lawful}
-use Rattle.laws.proofs.ByteOrder.{atom-lawful}
+use Rattle.laws.proofs.ByteOrder.{atom-lawful, numbered-lawful}
 use Rattle.rules.specs.Grammar.{
   NameAt,
   PowerAt,

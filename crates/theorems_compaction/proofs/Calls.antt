@@ -12,8 +12,8 @@ use Rattle.rules.specs.Offices.{Word, readBack, ReadAlike}
 use Rattle.rules.specs.Compaction.{Compacted, keeps, renumbered, eachGiven, compactChecks, compactCall, compactIf, namesIt, CompactedAlike}
 use Rattle.laws.specs.Lists.{Every}
 use Rattle.laws.proofs.Lists.{clash}
-use Rattle.laws.specs.NameTable.{Good, good-distinct}
-use Rattle.laws.proofs.NameTable.{given-good}
+use Rattle.laws.specs.NameTable.{Good}
+use Rattle.laws.proofs.NameTable.{given-good, good-distinct}
 use Rattle.laws.specs.ReadLists.{Words}
 use Rattle.laws.proofs.Alike.{onward}
 use Rattle.theorems_offices.proofs.Both.{equal-answers, same-both}

@@ -10,8 +10,7 @@ use Rattle.rules.specs.Names.{Bytes, sameBytes, distinct}
 use Rattle.std.proofs.lemmas.Bool.{not-true}
 use Rattle.laws.specs.Lists.{and_left, and_right}
 use Rattle.laws.proofs.Lists.{true≢false, and_both}
-use Rattle.laws.specs.NameTable.{same-yes}
-use Rattle.laws.proofs.NameTable.{same-no, same-is}
+use Rattle.laws.proofs.NameTable.{same-no, same-is, same-yes}
 
 abbrev pub Among : Bytes → List Bytes → Bool
 Among m ns = any (sameBytes m) ns

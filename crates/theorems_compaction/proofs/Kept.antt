@@ -13,8 +13,8 @@ use Rattle.rules.specs.Names.{Bytes, table_of, names_of, sameBytes, is_held}
 use Rattle.rules.specs.Offices.{Name, named, stray, Word, number, name, nameNo, namesOne, wordIf, readBack}
 use Rattle.rules.specs.Writing.{kindIn}
 use Rattle.laws.proofs.Lists.{true≢false}
-use Rattle.laws.specs.NameTable.{Good, good-laid, good-distinct, length-names, distinct-same, same-yes}
-use Rattle.laws.proofs.NameTable.{held-is, same-no}
+use Rattle.laws.specs.NameTable.{Good}
+use Rattle.laws.proofs.NameTable.{held-is, same-no, good-laid, good-distinct, length-names, distinct-same, same-yes}
 use Rattle.theorems_compaction.proofs.Counting.{Among, among-keep}
 
 -- ══ A name among words ══

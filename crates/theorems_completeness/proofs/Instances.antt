@@ -41,7 +41,8 @@ use Rattle.rules.specs.Choices.{
 use Rattle.laws.proofs.Gcd.{is-gcd}
 use Rattle.laws.proofs.Fractions.{coprime-terms}
 use Rattle.laws.specs.Lists.{in_head, Every}
-use Rattle.laws.specs.ByteOrder.{numbered-lawful}
+use Rattle.laws.proofs.ByteOrder.{numbered-lawful}
+use Rattle.laws.proofs.NameTable.{held-apart}
 use Rattle.laws.specs.NameTable.{Good}
 use Rattle.theorems_completeness.specs.Claims.{DimensionSet, AllChoices, Complete, WideSet, WideComplete}
 use Rattle.theorems_completeness.specs.Examples.{
@@ -67,7 +68,6 @@ use Rattle.theorems_completeness.specs.Examples.{
 }
 use Rattle.theorems_completeness.specs.Theorems.{Within, MakesWideOnesTrue}
 use Rattle.theorems_completeness.proofs.Completeness.{all-choices, refused-then-none, wide-decided, conflict}
-use Rattle.laws.specs.Given.{held-apart}
 use Rattle.theorems_completeness.proofs.Chosen.{at_part}
 
 good-table : Good pool table

@@ -34,8 +34,8 @@ use Rattle.rules.specs.Choices.{Fixed, Choice, Rational}
 use Rattle.laws.specs.Order.{Lawful, Tells}
 use Rattle.laws.proofs.ByteOrder.{atom-lawful}
 use Rattle.std.proofs.lemmas.Bool.{not-false}
-use Rattle.laws.specs.Lists.{is-yes, All, all_nil, all_cons, in_head}
-use Rattle.laws.proofs.Lists.{true≢false, some≢none, keep-none}
+use Rattle.laws.specs.Lists.{All, all_nil, all_cons, in_head}
+use Rattle.laws.proofs.Lists.{true≢false, some≢none, keep-none, is-yes}
 use Rattle.laws.specs.Fractions.{Lowest}
 use Rattle.laws.specs.Exact.{OfLimits}
 use Rattle.laws.specs.GoodProducts.{goodAtom}

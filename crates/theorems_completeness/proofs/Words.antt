@@ -33,11 +33,11 @@ use Rattle.rules.specs.Calls.{
 }
 use Rattle.laws.specs.Order.{Lawful, Tells}
 use Rattle.laws.proofs.Checks.{need-passed}
-use Rattle.laws.specs.Given.{held-apart}
+use Rattle.laws.proofs.NameTable.{held-apart}
+use Rattle.laws.proofs.ByteOrder.{numbered-lawful}
 use Rattle.laws.proofs.Given.{lent-long, set-read}
 use Rattle.laws.proofs.Refusing.{Refuses, given as fine, needs, onward}
 use Rattle.laws.specs.Exact.{OfLimits}
-use Rattle.laws.specs.ByteOrder.{numbered-lawful}
 use Rattle.laws.specs.Lists.{and_left}
 use Rattle.laws.proofs.Lists.{got≢refused, bound-step}
 use Rattle.theorems_completeness.specs.Claims.{◌⇔◌, DimensionSet, AllChoices, Excepted, Unsolved, Told, Complete, WideSet, AllWideChoices, WideComplete}

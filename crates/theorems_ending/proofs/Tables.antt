@@ -4,9 +4,9 @@ use Rattle.std.proofs.Common.{ap, arith, ltb-true}
 use mathlib.Core.List.{List, [], ◌∷◌, Memᴰ}
 use Rattle.std.proofs.Math.Decide.{ℕ_discrete}
 use Rattle.rules.specs.Names.{table_of, names_of, numbersOf, is_held}
-use Rattle.laws.specs.ByteOrder.{numbered-lawful}
-use Rattle.laws.proofs.ByteOrder.{atom-lawful}
-use Rattle.laws.specs.NameTable.{Good, good-laid, held_tells}
+use Rattle.laws.proofs.NameTable.{good-laid, held_tells}
+use Rattle.laws.proofs.ByteOrder.{atom-lawful, numbered-lawful}
+use Rattle.laws.specs.NameTable.{Good}
 use Rattle.theorems_ending.proofs.Sets.{Known}
 
 -- the numbers below n

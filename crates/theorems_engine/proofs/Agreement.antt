@@ -34,10 +34,9 @@ use Rattle.rules.specs.Calls.{
   unsolved,
   refusedAfter,
 }
-use Rattle.laws.specs.ByteOrder.{numbered-lawful}
-use Rattle.laws.proofs.ByteOrder.{atom-lawful}
+use Rattle.laws.proofs.NameTable.{held-apart}
+use Rattle.laws.proofs.ByteOrder.{atom-lawful, numbered-lawful}
 use Rattle.laws.proofs.Checks.{need-passed}
-use Rattle.laws.specs.Given.{held-apart}
 use Rattle.laws.proofs.Given.{lent-long, set-read}
 use Rattle.laws.specs.Lists.{Every, and_left, and_right}
 use Rattle.laws.proofs.Lists.{bound-step, bracket, same_after, each-parts, got≢refused, same-number}

@@ -15,8 +15,8 @@ use Rattle.rules.specs.Trees.{Atom, Factor, ◌↑◌, Product, Names, is_scalar
 use Rattle.rules.specs.Products.{put}
 use Rattle.rules.specs.WellFormed.{atomOf, goodProduct}
 use Rattle.rules.specs.Solving.{run, solve, enough}
-use Rattle.laws.specs.Lists.{Every, is-yes, and_left, and_right}
-use Rattle.laws.proofs.Lists.{is-no}
+use Rattle.laws.specs.Lists.{Every, and_left, and_right}
+use Rattle.laws.proofs.Lists.{is-no, is-yes}
 use Rattle.laws.specs.Order.{Lawful, Tells}
 use Rattle.laws.proofs.Order.{before_differs}
 use Rattle.laws.proofs.Ranges.{nought-good, stored-good, stored-not-zero}

@@ -22,8 +22,8 @@ use Rattle.laws.proofs.Alike.{Alike, both, neither}
 use Rattle.laws.proofs.ByteOrder.{atom-lawful}
 use Rattle.laws.proofs.Contents.{apart-names}
 use Rattle.laws.proofs.Given.{or-some}
-use Rattle.laws.specs.Lists.{All, all_nil, all_cons, in_head, Every, all-every, is-yes}
-use Rattle.laws.proofs.Lists.{some≢none, all_append, map-to, bound-step, is-no, yes-is, no-is, is_all}
+use Rattle.laws.specs.Lists.{All, all_nil, all_cons, in_head, Every, all-every}
+use Rattle.laws.proofs.Lists.{some≢none, all_append, map-to, bound-step, is-no, yes-is, no-is, is_all, is-yes}
 use Rattle.theorems_soundness.specs.Claims.{Ordered, Once, YesOrLimits}
 use Rattle.theorems_soundness.proofs.Soundness.{solved-form, yes-solves}
 use Rattle.theorems_soundness.proofs.Judged.{solution-judged}

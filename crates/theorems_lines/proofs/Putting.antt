@@ -19,8 +19,8 @@ use Rattle.laws.proofs.Order.{self, after}
 use Rattle.laws.specs.Fractions.{Lowest}
 use Rattle.laws.proofs.Fractions.{one-lowest, plus-neg}
 use Rattle.laws.proofs.Sorted.{merge-nil}
-use Rattle.laws.specs.Lists.{All, all_cons, in_head, is-yes, all-every}
-use Rattle.laws.proofs.Lists.{alone, is-no, bound-step, allow-same}
+use Rattle.laws.specs.Lists.{All, all_cons, in_head, all-every}
+use Rattle.laws.proofs.Lists.{alone, is-no, bound-step, allow-same, is-yes}
 use Rattle.laws.specs.ExactProducts.{mergeE, raiseE}
 use Rattle.laws.proofs.ExactProducts.{multiply-value, raise-value}
 use Rattle.laws.proofs.Occurs.{each_opens, opens-each, merge_on, raise-on, as-product-is}

@@ -42,8 +42,8 @@ use Rattle.rules.specs.Contents.{namesIn}
 use Rattle.rules.specs.Products.{single}
 use Rattle.rules.specs.Plain.{plain, plainDim, plainTys, plainFields}
 use Rattle.rules.specs.Rounds.{Step, split, done, pairs, firstRules, bindTo, by_kind, functions, lists, structs, dimensionParts, trySatisfy}
-use Rattle.laws.specs.Lists.{All, all_nil, all_cons, in_head, is-yes}
-use Rattle.laws.proofs.Lists.{none_in, is-no}
+use Rattle.laws.specs.Lists.{All, all_nil, all_cons, in_head}
+use Rattle.laws.proofs.Lists.{none_in, is-no, is-yes}
 use Rattle.laws.proofs.RuleCases.{single-is}
 use Rattle.theorems_lines.proofs.Matching.{same-dim}
 use Rattle.theorems_lines.proofs.Shut.{Never, Shut, ShutCon, shut-left, shut-right, equal-shut}

@@ -37,8 +37,7 @@ use Rattle.rules.specs.Trees.{
 use Rattle.rules.specs.Views.{variable, parameter, name_of}
 use Rattle.rules.specs.Contents.{closed, variablesIn, parametersIn, namesIn, among, contains, containsName, fieldIn, sorted, sort, variables, unmixed}
 use Rattle.rules.specs.Offices.{Keeps, mapOpen, mapFactor, mapTy, map_tys, mapFields, mapOption}
-use Rattle.laws.specs.Lists.{is-yes}
-use Rattle.laws.proofs.Lists.{is-no}
+use Rattle.laws.proofs.Lists.{is-no, is-yes}
 use Rattle.theorems_offices.proofs.Over.{collect-over}
 use Rattle.theorems_offices.proofs.Sizes.{opens-map}
 

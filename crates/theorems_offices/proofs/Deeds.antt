@@ -10,8 +10,8 @@ use Rattle.rules.specs.TextReading.{Sofar, Sheet, sheet, refusedIn, sheetRead, h
 use Rattle.rules.specs.Offices.{Name, named, nameNo, mapGot, Office, sameOffice, Shared, tableIn, answered}
 use Rattle.laws.specs.Lists.{and_left, and_right}
 use Rattle.laws.proofs.Alike.{both, neither}
-use Rattle.laws.specs.NameTable.{Good, good-laid, length-names}
-use Rattle.laws.proofs.NameTable.{given-good, held-is, asked-name, name-asked}
+use Rattle.laws.specs.NameTable.{Good}
+use Rattle.laws.proofs.NameTable.{given-good, held-is, asked-name, name-asked, good-laid, length-names}
 use Rattle.theorems_offices.specs.Deeds.{Deed, enters, reads, Done, leftBy, readIn, afterDeed, afterDeeds, Reply, outcome, replyTo, noThreeIn}
 use Rattle.theorems_offices.specs.Deeds.{deedsBy, repliesTo, hadRoomFor, RepliedAlike, numbers, refusals, sets, EachAlike, none, next}
 use Rattle.theorems_offices.specs.Theorems.{DeedsUnmoved}

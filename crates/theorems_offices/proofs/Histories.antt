@@ -10,8 +10,8 @@ use Rattle.rules.specs.Offices.{answersTo, answerFor, noThree, hadRoom}
 use Rattle.laws.specs.Lists.{and_left, and_right}
 use Rattle.laws.proofs.Alike.{Alike, both, neither}
 use Rattle.laws.proofs.Lists.{true≢false}
-use Rattle.laws.specs.NameTable.{Good, good-laid, length-names}
-use Rattle.laws.proofs.NameTable.{good-given, held-is, new_is}
+use Rattle.laws.specs.NameTable.{Good}
+use Rattle.laws.proofs.NameTable.{good-given, held-is, new_is, good-laid, length-names}
 use Rattle.laws.proofs.Entering.{Enters, Case, stopped, known, full, new, enter-case, names-with, good-with, pass-checks, Passed}
 
 abbrev pub GoodIn : Shared → Type 0

@@ -11,8 +11,8 @@ use Rattle.std.proofs.Math.ListN.{get_or, get_or-eq_default}
 use Rattle.rules.specs.Base.{is_none}
 use Rattle.rules.specs.Names.{numbered, Table, table_of, names_of, is_held, number_of}
 use Rattle.rules.specs.Offices.{Keeps, Name, named, stray, bytesIn, byBytes, nameIf, nameNo}
-use Rattle.laws.specs.NameTable.{Good, good-laid, good-distinct, length-names, distinct-same}
-use Rattle.laws.proofs.NameTable.{held-is, search-any, search-found, search-none}
+use Rattle.laws.specs.NameTable.{Good}
+use Rattle.laws.proofs.NameTable.{held-is, search-any, search-found, search-none, good-laid, good-distinct, length-names, distinct-same}
 
 abbrev pub isNamed : Name → Bool
 isNamed (named n) = true

@@ -9,9 +9,9 @@ use Rattle.rules.specs.Grammar.{NameAt}
 use Rattle.rules.specs.TextReading.{Sofar, Told, told, refusedAt, Step, onward, give, placed, counted, enterName, entered, named}
 use Rattle.rules.specs.Offices.{Name, nameNo, mapGot, Shared, answered, answerFor, noThree}
 use Rattle.rules.specs.Offices as offices
-use Rattle.laws.specs.NameTable.{Good, good-laid, length-names}
+use Rattle.laws.specs.NameTable.{Good}
 use Rattle.laws.proofs.Alike as alike
-use Rattle.laws.proofs.NameTable.{good-given, held-is}
+use Rattle.laws.proofs.NameTable.{good-given, held-is, good-laid, length-names}
 use Rattle.theorems_offices.proofs.Histories.{grown-entry, NumberOf, Stands, number, name-is, entry-stands}
 
 -- ══ Tables that grow ══

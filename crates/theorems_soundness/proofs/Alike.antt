@@ -36,8 +36,7 @@ use Rattle.rules.specs.Products.{just, single}
 use Rattle.rules.specs.Plain.{plainDim, plain, plainTys, plainFields}
 use Rattle.rules.specs.Replacing.{asProduct}
 use Rattle.rules.specs.Meaning.{means, amongBounds, holds}
-use Rattle.laws.specs.Lists.{is-yes}
-use Rattle.laws.proofs.Lists.{got≢refused, yes-is}
+use Rattle.laws.proofs.Lists.{got≢refused, yes-is, is-yes}
 use Rattle.laws.proofs.RuleCases.{single-is}
 use Rattle.laws.proofs.Occurs.{as-product-is}
 

@@ -61,8 +61,8 @@ use Rattle.laws.specs.Powers.{Proper}
 use Rattle.laws.proofs.Powers.{merge-comm, merge-inverse, inverse-proper}
 use Rattle.laws.specs.GoodProducts.{goodAtom}
 use Rattle.laws.proofs.GoodProducts.{good-proper}
-use Rattle.laws.specs.Lists.{and_left, and_right, is-yes, All, all-is, in_head, Every}
-use Rattle.laws.proofs.Lists.{true≢false, some≢none, is_all, map-to, none_in}
+use Rattle.laws.specs.Lists.{and_left, and_right, All, all-is, in_head, Every}
+use Rattle.laws.proofs.Lists.{true≢false, some≢none, is_all, map-to, none_in, is-yes}
 use Rattle.laws.specs.RuleCases.{After, parts}
 use Rattle.laws.proofs.RuleCases.{
   Reads,

@@ -11,8 +11,8 @@ use Rattle.rules.specs.Trees.{Open, var, quant, par, Names, Ty, opened, Binding,
 use Rattle.rules.specs.Replacing.{Look, replaceTy, replaceBinding, find, bindings}
 use Rattle.rules.specs.Rounds.{State}
 use Rattle.laws.proofs.Untouched.{Unbound}
-use Rattle.laws.specs.Lists.{is-yes, All, all-every}
-use Rattle.laws.proofs.Lists.{some≢none, yes-is, each-parts, map-to}
+use Rattle.laws.specs.Lists.{All, all-every}
+use Rattle.laws.proofs.Lists.{some≢none, yes-is, each-parts, map-to, is-yes}
 use Rattle.laws.proofs.Turns.{Bound, Turn, bound, parted, dropped, Ended}
 use Rattle.laws.proofs.Occurs.{one-bound}
 use Rattle.theorems_soundness.proofs.Steps.{OpenOk}

@@ -13,8 +13,8 @@ use Rattle.rules.specs.Solving.{accepted, solve}
 use Rattle.rules.specs.Meaning.{Premise}
 use Rattle.rules.specs.Judging.{judge}
 use Rattle.rules.specs.Rules.{rules}
-use Rattle.laws.specs.ByteOrder.{numbered-lawful}
-use Rattle.laws.specs.NameTable.{numbered-tells}
+use Rattle.laws.proofs.ByteOrder.{numbered-lawful}
+use Rattle.laws.proofs.NameTable.{numbered-tells}
 use Rattle.laws.proofs.Lists.{some≢none, got≢refused}
 use Rattle.theorems_soundness.specs.Claims.{Ordered, Given}
 use Rattle.theorems_soundness.specs.Examples.{x, y, L, bytes, names, held, to, k10, k10-bindings, fields, product, products, products-bindings}

@@ -34,9 +34,9 @@ use Rattle.rules.specs.Calls.{
   judgeCall,
 }
 use Rattle.laws.proofs.Checks.{need-passed}
-use Rattle.laws.specs.Given.{held-apart}
+use Rattle.laws.proofs.NameTable.{held-apart}
+use Rattle.laws.proofs.ByteOrder.{numbered-lawful}
 use Rattle.laws.proofs.Given.{lent-long, kept-good, set-read}
-use Rattle.laws.specs.ByteOrder.{numbered-lawful}
 use Rattle.laws.specs.NameTable.{Good}
 use Rattle.laws.proofs.Lists.{bound-step}
 use Rattle.theorems_soundness.specs.Claims.{Ordered, Given, Fails, Proposes, YesOrLimits, SoundAnswer, JudgedSet}

@@ -9,7 +9,7 @@ use Rattle.rules.specs.Refusals.{number_of, toldBy}
 use Rattle.rules.specs.Trees.{Con, opensCon}
 use Rattle.rules.specs.declared.Refusal.{Refusal}
 use Rattle.laws.proofs.Lists.{clash, bracket, same_after}
-use Rattle.laws.specs.NameTable.{good-laid}
+use Rattle.laws.proofs.NameTable.{good-laid}
 use Rattle.names.specs.Told.{unit_of}
 use Rattle.names.specs.declared.tables.NameTable.{NameTable}
 use Rattle.records.specs.Found.{Words32}

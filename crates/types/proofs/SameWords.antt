@@ -27,8 +27,7 @@ use Rattle.rules.specs.Trees.{
   ty-dec,
 }
 use Rattle.rules.specs.Writing.{words, writeTy}
-use Rattle.laws.specs.Lists.{is-yes}
-use Rattle.laws.proofs.Lists.{is-no}
+use Rattle.laws.proofs.Lists.{is-no, is-yes}
 use Rattle.laws.proofs.Size.{size-ty, words-length}
 use Rattle.records.specs.Views.{viewAt, longAt, longOf, view_of}
 use Rattle.records.specs.Places.{view-some, long-some, recAt}

@@ -1,7 +1,8 @@
 -- `compact` meets its contract.
 use Rattle.std.proofs.Common.{refl, sym, arith}
 use Rattle.std.proofs.lemmas.Result.{err_from_is_err_and}
-use Rattle.laws.specs.NameTable.{Good, good-laid}
+use Rattle.laws.specs.NameTable.{Good}
+use Rattle.laws.proofs.NameTable.{good-laid}
 use Rattle.compaction.proofs.Checks.{checks-good}
 use Rattle.compaction.proofs.Called.{called, call-refused}
 use Rattle.compaction.proofs.compact.Goals as goal

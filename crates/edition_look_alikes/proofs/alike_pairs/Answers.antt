@@ -1,6 +1,6 @@
 use Rattle.std.proofs.Common.{arith, rules, ◌<◌, length}
 use Rattle.rules.specs.Names.{table_of, names_of}
-use Rattle.laws.specs.NameTable.{good-laid, length-names}
+use Rattle.laws.proofs.NameTable.{good-laid, length-names}
 use Rattle.edition_look_alikes.proofs.Runs.{pairs_more, pairs_done}
 use Rattle.edition_look_alikes.proofs.alike_pairs.Goals as goal
 

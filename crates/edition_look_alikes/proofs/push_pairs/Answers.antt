@@ -1,7 +1,7 @@
 use Rattle.std.proofs.Common.{◌≡◌, ◌<◌, arith, rules, length}
 use Rattle.std.proofs.Math.Facts.{Fits-below}
 use Rattle.rules.specs.Names.{table_of, names_of}
-use Rattle.laws.specs.NameTable.{good-laid, length-names}
+use Rattle.laws.proofs.NameTable.{good-laid, length-names}
 use Rattle.edition_look_alikes.specs.Alike.{alike}
 use Rattle.edition_look_alikes.proofs.Runs.{pair_more, pair_none, pair_done}
 use Rattle.edition_look_alikes.proofs.push_pairs.Goals as goal

@@ -1,6 +1,6 @@
 use Rattle.std.proofs.Common.{arith, rules, ◌<◌, length}
 use Rattle.rules.specs.Names.{table_of, names_of}
-use Rattle.laws.specs.NameTable.{good-laid, length-names}
+use Rattle.laws.proofs.NameTable.{good-laid, length-names}
 use Rattle.edition_look_alikes.proofs.Runs.{unseen_more, unseen_none, unseen_done}
 use Rattle.edition_look_alikes.proofs.with_unseen.Goals as goal
 use Rattle.edition_look_alikes.proofs.with_unseen.Goals.{then-has_unseen+in_ok-push, else-has_unseen}

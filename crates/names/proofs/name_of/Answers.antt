@@ -5,8 +5,8 @@ use Prim.Native.Nat.{ℕ, ◌<◌}
 use lib.ListN.{get_or}
 use Rattle.rules.specs.Base.{Got, got, refused}
 use Rattle.rules.specs.Names.{Bytes, table_of, nameAsked, start_in, partFrom, partAsked}
-use Rattle.laws.specs.NameTable.{Good, good-laid}
-use Rattle.laws.proofs.NameTable.{name-asked, start-in}
+use Rattle.laws.specs.NameTable.{Good}
+use Rattle.laws.proofs.NameTable.{name-asked, start-in, good-laid}
 use Rattle.names.specs.Told.{refusalOf, IsPart, heldPart}
 use Rattle.names.proofs.Asked.{passed-held}
 use Rattle.names.proofs.name_of.Goals as goal

@@ -2,7 +2,7 @@
 use native.Mathlib.Omega.{arith}
 use mathlib.Core.Path.{refl, ◌∙◌}
 use Prim.Native.Nat.{◌+◌}
-use Rattle.laws.specs.NameTable.{good-laid}
+use Rattle.laws.proofs.NameTable.{good-laid}
 use Rattle.compaction.proofs.Moves.{doing-first, doing-skip, doing-keep, doing-last, end_is, pool-long, table-long, rises, within, from-within, copied, wiped}
 use Rattle.compaction.proofs.inner.squeeze.Goals as goal
 

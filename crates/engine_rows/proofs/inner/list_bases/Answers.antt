@@ -1,8 +1,8 @@
 -- `inner::list_bases` meets its contract: by what the marks say.
 use lib.ListN.{get_or}
 use Rattle.rules.specs.Names.{table_of, names_of}
-use Rattle.laws.specs.ByteOrder.{numbered-lawful}
-use Rattle.laws.specs.NameTable.{good-laid, held_tells}
+use Rattle.laws.proofs.ByteOrder.{numbered-lawful}
+use Rattle.laws.proofs.NameTable.{good-laid, held_tells}
 use Rattle.records.specs.Good.{numbers}
 use Rattle.queries.proofs.SortMarks.{marks-held, marks-sort}
 use Rattle.engine_rows.specs.Columns.{basesIn}

@@ -12,7 +12,7 @@ use lib.ListN.{length}
 use Rattle.rules.specs.Base.{need}
 use Rattle.rules.specs.declared.Refusal.TheVariants.{NameLength}
 use Rattle.rules.specs.Names.{table_of, names_of, number_of, hasRoom, enterKnown, enterChecked}
-use Rattle.laws.specs.NameTable.{good-laid}
+use Rattle.laws.proofs.NameTable.{good-laid}
 use Rattle.std.specs.Prelude.{Err}
 use Rattle.names.specs.Told.{entered}
 use Rattle.names.proofs.inner.enter_good.Goals as goal

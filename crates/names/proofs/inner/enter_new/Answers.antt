@@ -11,8 +11,8 @@ use lib.Seq.{take_all, drop-drop}
 use Rattle.rules.specs.declared.Refusal.TheVariants.{NoRoom}
 use Rattle.rules.specs.declared.Was.TheVariants.{New}
 use Rattle.rules.specs.Names.{table_of, hasRoom, enterKnown}
-use Rattle.laws.specs.NameTable.{start_at, Good, good-laid}
-use Rattle.laws.proofs.NameTable.{used-within, room-is, new_is}
+use Rattle.laws.specs.NameTable.{start_at, Good}
+use Rattle.laws.proofs.NameTable.{used-within, room-is, new_is, good-laid}
 use Rattle.std.specs.Prelude.{Ok, Err}
 use Rattle.names.specs.Told.{entered}
 use Rattle.names.proofs.inner.enter_new.Goals as goal

@@ -4,7 +4,7 @@ use Prim.Native.Nat.{◌<◌}
 use native.Mathlib.Omega.{arith}
 use lib.ListN.{length}
 use Rattle.rules.specs.Names.{table_of, names_of}
-use Rattle.laws.specs.NameTable.{length-names}
+use Rattle.laws.proofs.NameTable.{length-names}
 use Rattle.names.proofs.Digests.{one-here, none_here, none-behind}
 use Rattle.names.proofs.inner.held_again.Goals as goal
 

@@ -4,7 +4,7 @@ use Prim.Native.Nat.{◌≤◌}
 use native.Mathlib.Omega.{arith}
 use borrow.Author.Tests.{le-leb, lt-leb}
 use lib.ListN.{get_or}
-use Rattle.laws.specs.NameTable.{good-is}
+use Rattle.laws.proofs.NameTable.{good-is}
 use Rattle.names.proofs.inner.is_good.Goals as goal
 use Rattle.names.proofs.inner.is_good.Goals.{then-table-gt-NAMES-via-then-table-gt-NAMES, then-table-gt-NAMES-via-else-table-gt-NAMES+then-not-lengths_good}
 

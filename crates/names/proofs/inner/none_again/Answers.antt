@@ -7,8 +7,7 @@ use native.Mathlib.Omega.{arith}
 use lib.ListN.{length, drop, get_or}
 use lib.Seq.{drop-cons}
 use Rattle.rules.specs.Names.{Bytes, table_of, names_of, distinct}
-use Rattle.laws.specs.NameTable.{length-names}
-use Rattle.laws.proofs.NameTable.{names-end}
+use Rattle.laws.proofs.NameTable.{names-end, length-names}
 use Rattle.names.proofs.Digests.{repeated, fresh}
 use Rattle.names.proofs.inner.none_again.Goals as goal
 

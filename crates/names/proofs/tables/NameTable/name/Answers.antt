@@ -6,7 +6,7 @@ use borrow.Author.Rules.{rules}
 use lib.ListN.{get_or}
 use Prim.Native.Nat.{◌≤◌}
 use Rattle.rules.specs.Names.{table_of, names_of}
-use Rattle.laws.specs.NameTable.{good-laid, length-names}
+use Rattle.laws.proofs.NameTable.{good-laid, length-names}
 use Rattle.names.proofs.tables.NameTable.name.Goals as goal
 
 pub name_at-requires-clause-laid : goal.name_at-requires-clause-laid

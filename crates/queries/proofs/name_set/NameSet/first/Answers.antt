@@ -3,8 +3,8 @@ use mathlib.Core.Path.{◌≡◌}
 use native.Mathlib.Omega.{arith}
 use lib.ListN.{get_or}
 use Rattle.rules.specs.Names.{table_of, names_of}
-use Rattle.laws.specs.ByteOrder.{numbered-lawful}
-use Rattle.laws.specs.NameTable.{held_tells}
+use Rattle.laws.proofs.ByteOrder.{numbered-lawful}
+use Rattle.laws.proofs.NameTable.{held_tells}
 use Rattle.records.specs.Good.{numbers}
 use Rattle.queries.proofs.SortMarks.{least-none, skipped, taken}
 use Rattle.queries.proofs.name_set.NameSet.first.Goals as goal

@@ -2,7 +2,7 @@
 use mathlib.Core.Path.{refl}
 use native.Mathlib.Omega.{arith}
 use Rattle.rules.specs.TextReading.{named}
-use Rattle.laws.specs.NameTable.{good-laid}
+use Rattle.laws.proofs.NameTable.{good-laid}
 use Rattle.text_grammar.proofs.Factors.{name-bad}
 use Rattle.text_names.proofs.Effects.{kept_same, roomy, ends-bad}
 use Rattle.text_names.proofs.Naming.{front_of, named-done}
