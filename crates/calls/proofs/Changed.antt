@@ -1,6 +1,6 @@
 -- What a call changed, place by place.
 use mathlib.Core.Path.{◌≡◌, refl, sym, ap, ◌∙◌}
-use mathlib.Core.Bool.{Bool, true, false}
+use mathlib.Core.Bool.{Bool, true, false, cond}
 use mathlib.Core.List.{List, [], ◌∷◌, ◌++◌}
 use Prim.Native.Nat.{ℕ, zero, suc, ◌+◌, ◌-◌, ◌<◌, ◌≤◌}
 use native.Mathlib.Omega.{arith}
@@ -9,7 +9,6 @@ use Rattle.std.proofs.Common.{add-one, length-append}
 use Rattle.std.proofs.lemmas.List.{get_or-take}
 use Rattle.std.proofs.lemmas.List.Edits.{sets}
 use Rattle.records.proofs.Stores.{sets-append}
-use Rattle.calls_defined.specs.Saying.{pick}
 use Rattle.calls_defined.specs.Dispatch.{change, changesFrom}
 
 module _ (b a : List ℕ) where
@@ -49,7 +48,7 @@ module _ (b a : List ℕ) where
 pub few : (i b a : ℕ) → length (change i b a) ≤ 2
 few i b a = go (lib.Dec.eqb b a)
   where
-    go : (e : Bool) → length (pick e [] (i ∷ a ∷ [])) ≤ 2
+    go : (e : Bool) → length (cond e [] (i ∷ a ∷ [])) ≤ 2
     go true = omega arith
     go false = omega arith
 

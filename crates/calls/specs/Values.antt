@@ -4,7 +4,8 @@ use Rattle.std.proofs.lemmas.List.Edits.{sets}
 use Rattle.rules.specs.Base.{Got, got, refused, collect}
 use Rattle.rules.specs.Values.{ProductValue, productValue}
 use Rattle.calls_defined.specs.Saying.{word, saidAs, refusedAs}
-use Rattle.calls_defined.specs.Dispatch.{Shown, shown, factorWords}
+use Rattle.calls_defined.specs.Dispatch.{Shown, shown}
+use Rattle.calls_defined.specs.Factors.{factorWords}
 use Rattle.calls_defined.specs.declared.told.Told.{Told}
 
 abbrev pub valueAs : Got ProductValue → Told

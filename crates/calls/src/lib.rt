@@ -4,7 +4,6 @@
 pub mod inner;
 pub mod lists;
 pub mod named;
-pub mod sheets;
 pub mod values;
 
 ghost use Rattle.std.specs.Prelude.{◌≡◌};
@@ -13,15 +12,15 @@ ghost use Rattle.calls_defined.specs.Dispatch.{served, dispatch};
 use calls_defined::numbers::Call;
 use calls_defined::told::{Told, asked, checked, counted, limited, solution, written};
 use calls_defined::{Asked, Lists};
+use library_pairs::judge_pairs;
 use lines::check_line;
-use lists::{adding_to, lent_told};
+use lists::{adding_to, batch, lent_told};
 use named::{compared, entered, named};
 use names::check_table;
 use queries::{closed, contains, variables};
 use records::{is_bindings, is_scheme, is_set, is_type};
 use replace_calls::{replace_in_set, replace_in_type};
 use schemes::{generalise, instantiate, quantify};
-use sheets::{batch, judge_pairs};
 use solve::solve;
 use solve_ceiling::ceiling;
 use solve_confirm::confirm;

@@ -4,8 +4,9 @@ ghost use Rattle.std.proofs.lemmas.List.Edits.{sets};
 ghost use Rattle.calls_defined.specs.Dispatch.{shown, named, change, changesFrom, naming, entering, comparing};
 
 use calls_defined::told::{Told, numbered, ordered, refused, said};
-use calls_defined::words::{fill, fill_low, fill_words, put};
+use calls_defined::words::{fill, fill_low, fill_words};
 use names::{check_number, compare, enter, name_of};
+use records::inner::put;
 
 /// Names are looked at as far as this: a longer one is refused in any case.
 const NAME: usize = 512;

@@ -1,2 +1,3 @@
+pub mod Factors
 pub mod Fills
 pub mod Same

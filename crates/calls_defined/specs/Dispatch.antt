@@ -1,14 +1,12 @@
 -- What each call comes to (docs/SERVE.md): the call's own definition of the rules on the words that were given, what is told of it in words,
 -- and what all that is lent holds then.
-use Rattle.std.specs.Prelude.{ℕ, zero, suc, List, [], ◌∷◌, ◌++◌, length, take, drop, ◌==◌, slice_index}
+use Rattle.std.specs.Prelude.{cond, min, ℕ, zero, suc, List, [], ◌∷◌, ◌++◌, length, take, drop, ◌==◌, slice_index}
 use Rattle.std.proofs.lemmas.List.Edits.{sets}
 use Rattle.rules.specs.Base.{Got, got, refused, collect}
-use Rattle.rules.specs.Exponents.{Exp, frac}
 use Rattle.rules.specs.Trees.{Product}
 use Rattle.rules.specs.Products.{scalar}
 use Rattle.rules.specs.Names.{Bytes, Entered, orderBytes, tableGiven, nameAsked, part_of, enter}
-use Rattle.rules.specs.Values.{FactorValue, productValue, sumCall, timesCall, negationCall, quotientCall, multiplyCall, divideCall, inverseCall, raiseCall}
-use Rattle.rules.specs.Writing.{twos}
+use Rattle.rules.specs.Values.{productValue, sumCall, timesCall, negationCall, quotientCall, multiplyCall, divideCall, inverseCall, raiseCall}
 use Rattle.rules.specs.Calls.{
   Listed,
   Written,
@@ -29,8 +27,10 @@ use Rattle.rules.specs.Batches.{Batch, batchCall}
 use Rattle.rules.specs.Ceiling.{ceilingCall}
 use Rattle.rules.specs.Confirming.{confirmCall}
 use Rattle.rules.specs.Lines.{checkLineCall}
-use Rattle.calls_defined.specs.Given.{at_most, exponentAt, productAt, nameIn, entriesIn}
-use Rattle.calls_defined.specs.Saying.{pick, word, saidAs, refusedAs, checkedAs, askedAs, numberAs, orderAs}
+use Rattle.library_pairs.specs.Pairs.{entriesIn}
+use Rattle.calls_defined.specs.Factors.{exponentAt, productAt, factorWords}
+use Rattle.calls_defined.specs.Given.{nameIn}
+use Rattle.calls_defined.specs.Saying.{word, saidAs, refusedAs, checkedAs, askedAs, numberAs, orderAs, powerAs}
 use Rattle.calls_defined.specs.Saying.{countedAs, writtenAs, addedAs, solvedAs, ceilingAs, batchedAs}
 use Rattle.calls_defined.specs.declared.Asked.{Asked}
 use Rattle.calls_defined.specs.declared.numbers.Call.{Call}
@@ -119,7 +119,7 @@ naming pool table x result = shown (nameAs (nameAsked pool table x)) (sets resul
 
 -- a place whose value is another one now, with this
 abbrev pub change : ℕ → ℕ → ℕ → List ℕ
-change i before after = pick (before == after) [] (i ∷ after ∷ [])
+change i before after = cond (before == after) [] (i ∷ after ∷ [])
 
 -- the places from i on, so many, where two lists differ, each with what stands there in the second
 unfoldable pub changesFrom : List ℕ → List ℕ → ℕ → ℕ → List ℕ
@@ -129,9 +129,9 @@ changesFrom before after i (suc n) = change i (slice_index before i) (slice_inde
 -- the changed bytes of the pool, a word of ones, the changed words of the table; as far as the request's room for them goes
 unfoldable pub changes : List ℕ → List ℕ → Entered → List ℕ
 changes pool table e =
-    changesFrom pool e.pool 0 (at_most (length pool) 9216)
+    changesFrom pool e.pool 0 (min (length pool) 9216)
     ++ 4_294_967_295
-    ∷ changesFrom table e.table 0 (at_most (length table) 512)
+    ∷ changesFrom table e.table 0 (min (length table) 512)
 
 unfoldable pub enteredAs : List ℕ → List ℕ → Entered → List ℕ → Named
 enteredAs pool table e result = named (numberAs e.answer (length (changes pool table e))) e.pool e.table (sets result 0 (changes pool table e))
@@ -144,24 +144,9 @@ entering pool table b result = enteredAs pool table (enter pool table (nameIn b)
 unfoldable pub comparing : List ℕ → List ℕ → Told
 comparing a b = orderAs (orderBytes (nameIn a) (nameIn b))
 
--- ══ Exponents ══
-
-abbrev pub powerAs : Got Exp → Told
-powerAs (got (frac n d)) = saidAs (twos n) d 0
-powerAs (refused n) = refusedAs n 0 0
-
 -- ══ Products ══
 
--- the four words of a factor, and those of a product or, beside a refusal, of the scalar: all 64 places
-abbrev pub factorWords : FactorValue → List ℕ
-factorWords f = f.kind ∷ f.name ∷ numerator f.exp ∷ denominator f.exp ∷ []
-  where
-    numerator : Exp → ℕ
-    numerator (frac n d) = twos n
-
-    denominator : Exp → ℕ
-    denominator (frac n d) = d
-
+-- what is told of a product or, beside a refusal, of the scalar: all 64 places
 abbrev pub productOr : Got (Product ℕ) → Product ℕ
 productOr (got p) = p
 productOr (refused n) = scalar
@@ -246,6 +231,6 @@ module _ (q : Asked) (pool table a b c d result work : List ℕ) where
   dispatch Instantiate = does (written (instantiateCall pool table a b result work))
   dispatch Judge = does (judged (judgeCall pool table a (entriesIn b) c d work) result)
   dispatch Ceiling = says (ceilingAs (ceilingCall pool table a))
-  dispatch SolveAll = does (batchOf (at_most (at_most q.x 512) (length result)) pool table a b result work)
+  dispatch SolveAll = does (batchOf (min (min q.x 512) (length result)) pool table a b result work)
   dispatch CheckLine = does (written (checkLineCall pool table a b c d result work))
   dispatch Confirm = does (solution (confirmCall pool table a result work))

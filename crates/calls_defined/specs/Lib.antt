@@ -1,7 +1,7 @@
 -- What the contracts of this crate cite, and those of the groups of calls.
 pub mod Saying
-pub mod Same
 pub mod Fills
 pub mod Given
+pub mod Factors
 pub mod Numbers
 pub mod Dispatch

@@ -1,6 +1,5 @@
 -- Which call has which number.
-use Rattle.std.specs.Prelude.{ℕ, List, [], ◌∷◌, Option, None, Some, ◌==◌}
-use Rattle.calls_defined.specs.Saying.{pick}
+use Rattle.std.specs.Prelude.{cond, ℕ, List, [], ◌∷◌, Option, None, Some, ◌==◌}
 use Rattle.calls_defined.specs.declared.numbers.Call.{Call}
 use Rattle.calls_defined.specs.declared.numbers.Call.TheVariants.{
   CheckTable,
@@ -40,7 +39,7 @@ use Rattle.calls_defined.specs.declared.numbers.Call.TheVariants.{
 -- what stands at a number in a table, if anything does
 abbrev pub byNumber : {A : Type 0} → ℕ → List (ℕ × A) → Option A
 byNumber n [] = None
-byNumber n (x ∷ xs) = pick (n == x.0) (Some x.1) (byNumber n xs)
+byNumber n (x ∷ xs) = cond (n == x.0) (Some x.1) (byNumber n xs)
 
 abbrev pub numbered : List (ℕ × Call)
 numbered =

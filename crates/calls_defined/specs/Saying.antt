@@ -1,18 +1,16 @@
 -- What a call says, in words: an answer of the rules as a refusal's number (0: none), a value, a second value, rounds, and the number of words
 -- at the front of the result buffer that are the answer's.
-use Rattle.std.specs.Prelude.{ℕ, ◌+◌, ◌*◌, ◌%◌, Bool, true, false, nat_lt}
+use Rattle.std.specs.Prelude.{cond, ℕ, ◌+◌, ◌*◌, ◌%◌, Bool, nat_lt}
 use Prim.Native.Nat.{Ordering}
-use Rattle.rules.specs.Base.{Got, got, refused}
+use Rattle.rules.specs.Base.{Got, got, refused, oneIf}
 use Rattle.rules.specs.declared.Was.{Was}
 use Rattle.rules.specs.declared.Was.TheVariants.{New, Known}
 use Rattle.rules.specs.Adding.{Added, satisfied, violated, unknown}
 use Rattle.rules.specs.Calls.{Solved, solved, unsolved, refusedAfter}
 use Rattle.rules.specs.Ceiling.{Ceiling}
+use Rattle.rules.specs.Exponents.{Exp, frac}
+use Rattle.rules.specs.Writing.{twos}
 use Rattle.calls_defined.specs.declared.told.Told.{Told}
-
-abbrev pub pick : {A : Type 0} → Bool → A → A → A
-pick true a b = a
-pick false a b = b
 
 -- a count as a word
 abbrev pub word : ℕ → ℕ
@@ -20,14 +18,11 @@ word n = n % 4294967296
 
 -- four words a record; no count of a call is near the bound
 abbrev pub fours : ℕ → ℕ
-fours n = pick (nat_lt n 1000000000) (n * 4) 0
+fours n = cond (nat_lt n 1000000000) (n * 4) 0
 
 -- counts of one buffer together: at 64 bits
 abbrev pub sum : ℕ → ℕ → ℕ
 sum b n = (b + n) % 18446744073709551616
-
-abbrev pub yesWord : Bool → ℕ
-yesWord b = pick b 1 0
 
 abbrev pub saidAs : ℕ → ℕ → ℕ → Told
 saidAs value more words = record { refusal = 0; value = value; more = more; rounds = 0; words = words }
@@ -43,7 +38,7 @@ checkedAs (refused n) = refusedAs n 0 0
 
 -- no 0, yes 1
 abbrev pub askedAs : Got Bool → Told
-askedAs (got b) = saidAs (yesWord b) 0 0
+askedAs (got b) = saidAs (oneIf b) 0 0
 askedAs (refused n) = refusedAs n 0 0
 
 -- known 0, new 1
@@ -55,6 +50,11 @@ wasWord Known = 0
 abbrev pub numberAs : Got (ℕ × Was) → ℕ → Told
 numberAs (got (n, was)) words = saidAs n (wasWord was) words
 numberAs (refused n) words = refusedAs n 0 words
+
+-- an exponent's numerator, in two's complement, and its denominator
+abbrev pub powerAs : Got Exp → Told
+powerAs (got (frac n d)) = saidAs (twos n) d 0
+powerAs (refused n) = refusedAs n 0 0
 
 -- less 1, same 2, more 3
 abbrev pub orderAs : Ordering → Told

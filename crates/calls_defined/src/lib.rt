@@ -1,6 +1,7 @@
 //! What a call by its number says, in words, and the words and bytes of buffers: the calls behind their numbers share this.
 #![tactic(auto)]
 
+pub mod inner;
 pub mod numbers;
 pub mod told;
 pub mod words;

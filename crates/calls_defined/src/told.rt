@@ -1,14 +1,16 @@
 //! What a call says, in words: `calls_defined/specs/Saying` has each answer as one definition.
 ghost use Rattle.std.specs.Prelude.{◌≡◌};
 ghost use Rattle.rules.specs.Refusals.{number_of, told, toldBy};
+ghost use Rattle.exponents.specs.Answers.{expOf};
 ghost use Rattle.names.specs.Told.{toldOrder};
 ghost use Rattle.solve_add.specs.Told.{counted};
 ghost use Rattle.solve.specs.Told as solving;
 ghost use Rattle.solve_ceiling.specs.Told.{toldMost};
 ghost use Rattle.rules.specs.Calls.{solved, unsolved};
-ghost use Rattle.calls_defined.specs.Saying.{word, fours, sum, yesWord, saidAs, refusedAs, checkedAs, askedAs, numberAs};
-ghost use Rattle.calls_defined.specs.Saying.{orderAs, countedAs, writtenAs, addedAs, solvedAs, wasWord, mostAs, ceilingAs, batchedAs};
+ghost use Rattle.calls_defined.specs.Saying.{word, fours, sum, saidAs, refusedAs, checkedAs, askedAs, numberAs};
+ghost use Rattle.calls_defined.specs.Saying.{powerAs, orderAs, countedAs, writtenAs, addedAs, solvedAs, wasWord, mostAs, ceilingAs, batchedAs};
 
+use exponents::Exponent;
 use rules::{Refusal, Was};
 use solve::{Finish, Solution};
 use solve_ceiling::Most;
@@ -74,18 +76,13 @@ pub fn checked(c: Result<(), Refusal>) -> Told
     }
 }
 
-fn yes(b: bool) -> u32
-    ensures { result ≡ yesWord b }
-{
-    if b { 1 } else { 0 }
-}
-
 /// No 0, yes 1; the judge's too.
+#[tactic(auto, using(laws::proofs::Numbers::yes_counts))]
 pub fn asked(a: Result<bool, Refusal>) -> Told
     ensures { result ≡ askedAs (told a) }
 {
     match a {
-        Ok(b) => said(yes(b), 0, 0),
+        Ok(b) => said(u32::from(b), 0, 0),
         Err(why) => refused(why, 0, 0),
     }
 }
@@ -106,6 +103,16 @@ pub fn numbered(a: Result<(u32, Was), Refusal>, words: usize) -> Told
     match a {
         Ok((n, was)) => said(n, was_word(was), words),
         Err(why) => refused(why, 0, words),
+    }
+}
+
+/// An exponent: its numerator as a word in two's complement, and its denominator.
+pub fn powered(p: Result<Exponent, Refusal>) -> Told
+    ensures { result ≡ powerAs (toldBy expOf p) }
+{
+    match p {
+        Ok(e) => said(e.num_word(), e.den, 0),
+        Err(why) => refused(why, 0, 0),
     }
 }
 

@@ -1,30 +1,16 @@
 //! Words and bytes of buffers.
-ghost use Rattle.std.specs.Prelude.{◌≡◌, map, drop, slice_index, slice_set};
+ghost use Rattle.std.specs.Prelude.{◌≡◌, ◌==◌, map, drop, slice_set};
 ghost use Rattle.std.proofs.lemmas.List.Edits.{sets};
-ghost use Rattle.calls_defined.specs.Same.{same};
+ghost use Rattle.rules.specs.Base.{all};
 ghost use Rattle.calls_defined.specs.Fills.{low_byte};
+
+use records::inner::put;
 
 /// The low eight bits.
 pub fn low(x: u32) -> u8
     ensures { result ≡ low_byte x }
 {
     (x % 256) as u8
-}
-
-/// The word at a place; 0 past the end.
-pub fn word_of(s: &[u32], i: usize) -> u32
-    ensures { result ≡ slice_index s.now i }
-{
-    if i < s.len() { s[i] } else { 0 }
-}
-
-/// Sets a word, where there is one at i.
-pub fn put(out: &mut [u32], i: usize, w: u32)
-    ensures { out.new ≡ slice_set out.old i w }
-{
-    if i < out.len() {
-        out[i] = w;
-    }
 }
 
 /// Sets a byte, where there is one at i.
@@ -40,9 +26,8 @@ pub fn put_byte(out: &mut [u8], i: usize, b: u8)
 pub fn fill(a: &[u32], buffer: &mut [u32])
     ensures { buffer.new ≡ sets buffer.old 0 a.now }
 {
-    for i in 0..a.len() {
-        put(buffer, i, a[i]);
-    }
+    let n = a.len().min(buffer.len());
+    buffer[..n].copy_from_slice(&a[..n]);
 }
 
 /// Each byte as a word, at the front of a buffer, as far as it goes.
@@ -65,7 +50,7 @@ pub fn fill_low(a: &[u32], buffer: &mut [u8])
 
 /// Is each word from this place on the given one?
 pub fn all_from(a: &[u32], from: usize, word: u32) -> bool
-    ensures { result ≡ same (drop from a.now) word }
+    ensures { result ≡ all (λ x. x == word) (drop from a.now) }
 {
     for i in from..a.len() {
         if a[i] != word {

@@ -1,2 +1,1 @@
 pub mod OnPlacing
-mod Stores

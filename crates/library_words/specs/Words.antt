@@ -3,8 +3,6 @@
 use Rattle.std.specs.Prelude.{List, [], ◌∷◌, ℕ, length}
 use Rattle.std.proofs.lemmas.List.Edits.{sets}
 use Rattle.rules.specs.Base.{Got, got, refused}
-use Rattle.rules.specs.Exponents.{Exp, frac}
-use Rattle.rules.specs.Writing.{twos}
 use Rattle.rules.specs.Elimination.{Eliminated, allBound, someLeft, refusedWith}
 use Rattle.rules.specs.Names.{Bytes, PoolPart}
 use Rattle.rules.specs.Numbers.{refusalIn}
@@ -25,14 +23,6 @@ countAs (refused n) = refusedAs n 0 0
 abbrev pub countsAs : Got (ℕ × ℕ) → Told
 countsAs (got (kept, skipped)) = saidAs (word kept) (word skipped) 0
 countsAs (refused n) = refusedAs n 0 0
-
--- an exponent's numerator, in two's complement, and its denominator
-abbrev pub powerWords : Exp → Told
-powerWords (frac n d) = saidAs (twos n) d 0
-
-abbrev pub powerAs : Got Exp → Told
-powerAs (got e) = powerWords e
-powerAs (refused n) = refusedAs n 0 0
 
 -- records of bindings; on 5 of what remains
 abbrev pub eliminatedAs : Eliminated → Told

@@ -1,36 +1,18 @@
 //! The answers of the calls that `calls_defined` does not tell.
 ghost use Rattle.std.specs.Prelude.{◌≡◌};
-ghost use Rattle.exponents.specs.Answers.{expOf};
 ghost use Rattle.engine.specs.Told.{toldEliminated};
 ghost use Rattle.rescue.specs.Told.{countsOf};
 ghost use Rattle.text_sheet.specs.Given.{toldSheet};
-ghost use Rattle.library_words.specs.Words.{countAs, countsAs, powerWords, powerAs, eliminatedAs, counts, sheetAs};
+ghost use Rattle.library_words.specs.Words.{countAs, countsAs, eliminatedAs, counts, sheetAs};
 ghost use Rattle.rules.specs.Base.{got};
 ghost use Rattle.rules.specs.Refusals.{told, toldBy};
 ghost use Rattle.rules.specs.Elimination.{someLeft};
 
 use calls_defined::told::{Told, refused, said, short};
 use engine::Eliminated;
-use exponents::Exponent;
 use rescue::Counts;
 use rules::Refusal;
 use text_sheet::{NotRead, Read};
-
-fn power_words(e: Exponent) -> Told
-    ensures { result ≡ powerWords (expOf e) }
-{
-    said(e.num_word(), e.den, 0)
-}
-
-/// An exponent: its numerator as a word in two's complement, and its denominator.
-pub fn powered(p: Result<Exponent, Refusal>) -> Told
-    ensures { result ≡ powerAs (toldBy expOf p) }
-{
-    match p {
-        Ok(e) => power_words(e),
-        Err(why) => refused(why, 0, 0),
-    }
-}
 
 fn remaining(n: usize) -> Told
     ensures { result ≡ eliminatedAs (someLeft n) }

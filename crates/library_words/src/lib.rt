@@ -2,7 +2,6 @@
 #![tactic(auto)]
 
 pub mod answers;
-pub mod inner;
 pub mod placing;
 pub mod product_words;
 

@@ -2,24 +2,19 @@
 ghost use Rattle.std.specs.Prelude.{◌≡◌};
 ghost use Rattle.rules.specs.Refusals.{toldBy};
 ghost use Rattle.products.specs.Told.{given};
-ghost use Rattle.library_words.specs.Factors.{productAt, toldOf, written_of};
+ghost use Rattle.library_words.specs.Factors.{productIn, toldOf, written_of};
 
-use crate::inner::{factor_at, put_factors};
+use calls_defined::inner::{self, put_factors};
 use calls_defined::told::{Told, refused, said, short};
 use products::Product;
-use rules::{FACTORS, Refusal};
+use rules::Refusal;
 
 /// The product whose factors these words are, four a factor: kind, name or index, numerator in two's complement, denominator. A torn last factor, like a
 /// 65th, makes a product that no call takes (1).
 pub fn product_from(words: &[u32]) -> Product
-    ensures { given result ≡ productAt words.now }
+    ensures { given result ≡ productIn words.now }
 {
-    let mut p = Product::scalar();
-    for i in 0..FACTORS {
-        p.factors[i] = factor_at(words, i);
-    }
-    p.len = (words.len() + 3) / 4;
-    p
+    inner::product_from(words, (words.len() + 3) / 4)
 }
 
 /// What a call on products says: how many factors. All 64 places of its product are written to the result buffer, the unused ones too, as far as that

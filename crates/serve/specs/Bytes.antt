@@ -1,13 +1,12 @@
 -- Words of four bytes, the lowest first.
-use Rattle.std.specs.Prelude.{List, [], ◌∷◌, ◌++◌, ℕ, zero, suc, ◌+◌, ◌*◌, ◌-◌, ltb, length, get_or}
+use Rattle.std.specs.Prelude.{cond, List, [], ◌∷◌, ◌++◌, ℕ, zero, suc, ◌+◌, ◌*◌, ◌-◌, ltb, length, get_or}
 use Rattle.std.specs.List.{flat_map}
 use Rattle.std.specs.Int.{w32, to_le_bytes}
-use Rattle.calls_defined.specs.Saying.{pick}
 
 -- the word whose four bytes stand at a place; 0 past the end
 unfoldable pub word_at : List ℕ → ℕ → ℕ
-word_at s at = pick (ltb (length s) 4) 0
-    (pick (ltb (length s - 4) at) 0 (get_or s at 0 + get_or s (at + 1) 0 * 256 + get_or s (at + 2) 0 * 65536 + get_or s (at + 3) 0 * 16777216))
+word_at s at = cond (ltb (length s) 4) 0
+    (cond (ltb (length s - 4) at) 0 (get_or s at 0 + get_or s (at + 1) 0 * 256 + get_or s (at + 2) 0 * 65536 + get_or s (at + 3) 0 * 16777216))
 
 -- the first n words
 unfoldable pub words_in : List ℕ → ℕ → List ℕ

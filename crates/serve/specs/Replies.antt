@@ -1,7 +1,7 @@
 -- An answer: what the call said, what the buffers hold, and both in bytes.
-use Rattle.std.specs.Prelude.{Bool, List, [], ◌∷◌, ◌++◌, ℕ, ◌+◌, ◌*◌, ◌-◌, eqb, length, take, drop, replicate}
-use Rattle.calls_defined.specs.Saying.{pick, word}
-use Rattle.calls_defined.specs.Same.{same}
+use Rattle.std.specs.Prelude.{cond, Bool, List, [], ◌∷◌, ◌++◌, ℕ, ◌+◌, ◌*◌, ◌-◌, eqb, length, take, drop, replicate}
+use Rattle.calls_defined.specs.Saying.{word}
+use Rattle.rules.specs.Base.{all}
 use Rattle.calls_defined.specs.Dispatch.{Served, dispatch}
 use Rattle.calls_defined.specs.declared.Asked.{Asked}
 use Rattle.calls_defined.specs.declared.numbers.Call.{Call}
@@ -11,12 +11,12 @@ use Rattle.serve.specs.Requests.{Lending, lendingOf}
 use Rattle.serve.specs.declared.request.Header.{Header}
 
 abbrev pub flagOf : Bool → ℕ → ℕ
-flagOf is n = pick is n 0
+flagOf is n = cond is n 0
 
 -- 1: the result buffer is as before behind the answer; 2: the work buffer is all zero; 4: it is as before
 abbrev pub flags_of : ℕ → ℕ → ℕ → List ℕ → List ℕ → ℕ
 flags_of words result_was work_was result work =
-    flagOf (same (drop words result) result_was) 1 + flagOf (same (drop 0 work) 0) 2 + flagOf (same (drop 0 work) work_was) 4
+    flagOf (all (λ x. x == result_was) (drop words result)) 1 + flagOf (all (λ x. x == 0) work) 2 + flagOf (all (λ x. x == work_was) work) 4
 
 -- an answer: its length in bytes, what is told, the flags, how many words are the answer's, and the words behind
 abbrev pub answerOf : Told → ℕ → List ℕ → List ℕ
@@ -24,7 +24,7 @@ answerOf t flags behind = word (28 + length behind * 4) ∷ t.refusal ∷ t.valu
 
 -- the first n words of a buffer, 0 where it is shorter; then both buffers whole, where the request asks for them
 abbrev pub behindOf : Header → ℕ → List ℕ → List ℕ → List ℕ
-behindOf h n result work = (take n result ++ replicate (n - length result) 0) ++ pick (eqb h.show 0) [] (result ++ work)
+behindOf h n result work = (take n result ++ replicate (n - length result) 0) ++ cond (eqb h.show 0) [] (result ++ work)
 
 abbrev pub saidBy : Header → Served → List ℕ
 saidBy h s = answerOf s.told (flags_of s.told.words h.result_was h.work_was s.result s.work) (behindOf h s.told.words s.result s.work)

@@ -1,7 +1,7 @@
 -- The head of a request, sixteen words; what makes it a request that can be served; and what such a request lends.
-use Rattle.std.specs.Prelude.{Option, None, Some, Result, Ok, Err, List, ◌++◌, ℕ, ◌+◌, ◌*◌, ◌-◌, ◌/◌, ltb, eqb, length, take, drop, replicate}
+use Rattle.std.specs.Prelude.{cond, Option, None, Some, Result, Ok, Err, List, ◌++◌, ℕ, ◌+◌, ◌*◌, ◌-◌, ◌/◌, ltb, eqb, length, take, drop, replicate}
+use Rattle.rules.specs.Base.{oneIf}
 use Rattle.calls_defined.specs.Numbers.{callOf}
-use Rattle.calls_defined.specs.Saying.{pick}
 use Rattle.calls_defined.specs.declared.numbers.Call.{Call}
 use Rattle.serve.specs.Bytes.{word_at, words_in}
 use Rattle.serve.specs.declared.lent.Lent.{Lent}
@@ -31,11 +31,11 @@ head_of s = record {
 
 -- 1 where a length is over its room
 abbrev pub overBy : ℕ → ℕ → ℕ
-overBy n most = pick (ltb most n) 1 0
+overBy n most = oneIf (ltb most n)
 
 -- the most words of a result buffer: a large one is not shown whole
 abbrev pub roomOf : ℕ → ℕ
-roomOf show = pick (eqb show 0) 533504 9216
+roomOf show = cond (eqb show 0) 533504 9216
 
 -- how many words of a head are over their room
 unfoldable pub excessOf : Header → ℕ
@@ -61,7 +61,7 @@ faultNumber Untrue = 4
 -- of a call that there is: its request has room, and a body as long as its parts
 abbrev pub servedAs : Header → Option Call → Result Call Fault
 servedAs h None = Err Unknown
-servedAs h (Some call) = pick (ltb 0 (excessOf h)) (Err TooLong) (pick (eqb h.body (parts_of h)) (Ok call) (Err Untrue))
+servedAs h (Some call) = cond (ltb 0 (excessOf h)) (Err TooLong) (cond (eqb h.body (parts_of h)) (Ok call) (Err Untrue))
 
 -- the call that a request is for, or the first thing that is wrong with it
 unfoldable pub requestOf : Header → Result Call Fault
@@ -91,7 +91,7 @@ padded s n x = s ++ replicate (n - length s) x
 
 -- a whole name table's length, where the request asks for one
 abbrev pub leastOf : Header → ℕ → ℕ
-leastOf h n = pick (eqb h.whole 0) 0 n
+leastOf h n = cond (eqb h.whole 0) 0 n
 
 -- a name table, four lists and two buffers
 pub record Lending : Type 0 where

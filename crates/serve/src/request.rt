@@ -81,10 +81,11 @@ pub fn header_from(s: &[u8]) -> Header
 }
 
 // 1 where a length is over its room.
+#[tactic(auto, using(laws::proofs::Numbers::yes_counts, laws::proofs::Numbers::yes_at_most))]
 fn over(n: u32, most: u32) -> u32
     ensures { (result ≡ overBy n most) × (result ≤ 1) }
 {
-    if most < n { 1 } else { 0 }
+    u32::from(most < n)
 }
 
 // The same of a result buffer: a large one is not shown whole.

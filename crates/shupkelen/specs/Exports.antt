@@ -13,11 +13,11 @@ use Rattle.rules.specs.Rescue.{Rescued}
 use Rattle.rules.specs.TextReading.{TextRead}
 use Rattle.rules.specs.Compaction.{Compacted}
 use Rattle.rules.specs.Elimination.{Elimination}
-use Rattle.calls_defined.specs.Saying.{orderAs, askedAs, numberAs, countedAs, writtenAs, addedAs, solvedAs, ceilingAs}
+use Rattle.calls_defined.specs.Saying.{orderAs, askedAs, numberAs, powerAs, countedAs, writtenAs, addedAs, solvedAs, ceilingAs}
 use Rattle.calls_defined.specs.declared.told.Told.{Told}
 use Rattle.products.specs.Told as products
 use Rattle.library_words.specs.Factors.{toldOf, written_of}
-use Rattle.library_words.specs.Words.{answerWords, placeAs, countAs, countsAs, powerAs, eliminatedAs, sheetAs}
+use Rattle.library_words.specs.Words.{answerWords, placeAs, countAs, countsAs, eliminatedAs, sheetAs}
 
 pub record Out (B : Type 0) : Type 0 where
   pub number : ℕ

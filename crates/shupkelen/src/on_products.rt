@@ -2,7 +2,7 @@
 ghost use Rattle.std.specs.Prelude.{◌≡◌};
 ghost use Rattle.rules.specs.Exponents.{frac};
 ghost use Rattle.rules.specs.Values.{multiplyCall, divideCall, inverseCall, raiseCall};
-ghost use Rattle.library_words.specs.Factors.{productAt};
+ghost use Rattle.library_words.specs.Factors.{productIn};
 ghost use Rattle.shupkelen.specs.Exports.{out, productOut};
 
 use exponents::Exponent;
@@ -20,7 +20,7 @@ pub extern "C" fn shupkelen_product_multiply(
     res: &mut [u32],
     answer: &mut [u32],
 ) -> u32
-    ensures { out result answer.new res.new ≡ productOut (multiplyCall pool.now table.now (productAt first.now) (productAt second.now)) res.old answer.old }
+    ensures { out result answer.new res.new ≡ productOut (multiplyCall pool.now table.now (productIn first.now) (productIn second.now)) res.old answer.old }
 {
     let p = product_from(first);
     let q = product_from(second);
@@ -37,7 +37,7 @@ pub extern "C" fn shupkelen_product_divide(
     res: &mut [u32],
     answer: &mut [u32],
 ) -> u32
-    ensures { out result answer.new res.new ≡ productOut (divideCall pool.now table.now (productAt first.now) (productAt second.now)) res.old answer.old }
+    ensures { out result answer.new res.new ≡ productOut (divideCall pool.now table.now (productIn first.now) (productIn second.now)) res.old answer.old }
 {
     let p = product_from(first);
     let q = product_from(second);
@@ -53,7 +53,7 @@ pub extern "C" fn shupkelen_product_invert(
     res: &mut [u32],
     answer: &mut [u32],
 ) -> u32
-    ensures { out result answer.new res.new ≡ productOut (inverseCall pool.now table.now (productAt first.now)) res.old answer.old }
+    ensures { out result answer.new res.new ≡ productOut (inverseCall pool.now table.now (productIn first.now)) res.old answer.old }
 {
     let p = product_from(first);
     hand(put_product(p.invert(pool, table), res), answer)
@@ -71,7 +71,7 @@ pub extern "C" fn shupkelen_product_power(
     res: &mut [u32],
     answer: &mut [u32],
 ) -> u32
-    ensures { out result answer.new res.new ≡ productOut (raiseCall pool.now table.now (productAt first.now) (frac num den)) res.old answer.old }
+    ensures { out result answer.new res.new ≡ productOut (raiseCall pool.now table.now (productIn first.now) (frac num den)) res.old answer.old }
 {
     let p = product_from(first);
     let e = Exponent { num, den };

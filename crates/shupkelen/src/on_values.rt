@@ -5,8 +5,8 @@ ghost use Rattle.exponents.specs.Answers.{expOf};
 ghost use Rattle.rules.specs.Values.{sumCall, timesCall, negationCall, quotientCall};
 ghost use Rattle.shupkelen.specs.Exports.{out, powerOut};
 
+use calls_defined::told::powered;
 use exponents::Exponent;
-use library_words::answers::powered;
 use library_words::hand;
 
 // An exponent from its numerator and its denominator.

@@ -1,17 +1,10 @@
--- `words::fill` meets its contract: the loop says what is left to store.
-use Rattle.std.proofs.Common.{refl, arith}
-use Rattle.calls_defined.proofs.Fills.{fill_step, fill_end}
+-- `words::fill` meets its contract.
+use native.Mathlib.Omega.{arith}
+use Rattle.records.proofs.Stores.{part-cut}
 use Rattle.calls_defined.proofs.words.fill.Goals as goal
-
-pub loop-i-init : goal.loop-i-init
-loop-i-init c = refl
-
-pub loop-i-preserved : goal.loop-i-preserved
-loop-i-preserved c =
-    let l = c.loop-i in
-    fill_step c.args.a.now l.buffer c.put.new.out l.i _ (omega arith) (refl) c.put.ensures l.invariant
 
 pub returns : goal.returns
 returns c =
-    let l = c.loop-i in
-    fill_end c.args.a.now l.buffer l.i (omega arith) l.invariant
+    let m = c.min-n.ensures in
+    part-cut c.args.a.now c.args.buffer.now _ 0 c.min-n.result _ c.copy_from_slice.ensures.after (omega arith)
+    (omega (arith, m)) (omega (arith, m)) (λ h. omega (arith, m, h))

@@ -9,7 +9,7 @@ loop-i-init c = refl
 pub loop-i-preserved : goal.loop-i-preserved
 loop-i-preserved c =
     let l = c.loop-i in
-    fill_step c.args.a.now l.buffer c.put.new.out l.i _ (omega arith) refl c.put.ensures l.invariant
+    fill_step c.args.a.now l.buffer c.put.new.dst l.i _ (omega arith) refl c.put.ensures l.invariant
 
 pub returns : goal.returns
 returns c =

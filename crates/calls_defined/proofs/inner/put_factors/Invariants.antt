@@ -2,8 +2,8 @@ use Rattle.std.proofs.Common.{◌≡◌, ◌*◌, drop, map}
 use Rattle.std.proofs.lemmas.List.Edits.{sets}
 use Rattle.rules.specs.Base.{collect}
 use Rattle.products.specs.Told.{valueIn}
-use Rattle.calls_defined.specs.Dispatch.{factorWords}
-use Rattle.calls.proofs.inner.put_factors.Given as goal
+use Rattle.calls_defined.specs.Factors.{factorWords}
+use Rattle.calls_defined.proofs.inner.put_factors.Given as goal
 
 -- what is left to store
 abbrev pub invariant-loop-i : goal.invariant-loop-i

@@ -4,9 +4,9 @@ use mathlib.Core.List.{[]}
 use native.Mathlib.Omega.{arith}
 use lib.ListN.{length-set}
 use Rattle.products.proofs.Held.{made-long}
-use Rattle.calls_defined.specs.Given.{factorsFrom}
-use Rattle.calls.proofs.OfValues.{from_step, from-whole}
-use Rattle.calls.proofs.inner.product_from.Goals as goal
+use Rattle.calls_defined.specs.Factors.{factorsFrom}
+use Rattle.calls_defined.proofs.Factors.{from_step, from-whole}
+use Rattle.calls_defined.proofs.inner.product_from.Goals as goal
 
 pub loop-i-init : goal.loop-i-init
 unfolding factorsFrom
@@ -19,10 +19,10 @@ loop-i-preserved c =
       omega arith,
       length-set l.p.factors l.i c.factor_at.result
           ∙ l.invariant.1,
-      from_step c.args.a.now l.p.factors l.i c.factor_at.result (omega (arith, l.invariant.1)) c.factor_at.ensures l.invariant.2,
+      from_step c.args.words.now l.p.factors l.i c.factor_at.result (omega (arith, l.invariant.1)) c.factor_at.ensures l.invariant.2,
     )
 
 pub returns : goal.returns
 returns c =
     let l = c.loop-i in
-    from-whole c.args.a.now l.p l.i c.args.count (omega arith) (omega arith) l.invariant.1 l.invariant.2
+    from-whole c.args.words.now l.p l.i c.args.count (omega arith) (omega arith) l.invariant.1 l.invariant.2

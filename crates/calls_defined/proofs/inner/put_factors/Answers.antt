@@ -1,8 +1,8 @@
 -- `inner::put_factors` meets its contract: the loop says what is left to store.
 use native.Mathlib.Omega.{arith}
 use Rattle.products.specs.Told.{given}
-use Rattle.calls.proofs.OfValues.{put_step, put-end}
-use Rattle.calls.proofs.inner.put_factors.Goals as goal
+use Rattle.calls_defined.proofs.Factors.{put_step, put-end}
+use Rattle.calls_defined.proofs.inner.put_factors.Goals as goal
 
 pub loop-i-preserved : goal.loop-i-preserved
 loop-i-preserved c =

@@ -1,1 +1,0 @@
--- What the numbers 28, 29 and 30 come to, from what the calls themselves say.

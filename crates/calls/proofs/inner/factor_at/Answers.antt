@@ -1,5 +1,0 @@
--- `inner::factor_at` meets its contract.
-use Rattle.calls.proofs.inner.factor_at.Goals as goal
-
-pub returns : goal.returns
-returns c = λ j. record { kind = c.word_of.ensures j; name = c.word_of-2.ensures j; exp = c.exponent_at.ensures j }
