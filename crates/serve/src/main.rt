@@ -2,15 +2,10 @@
 //! docs/SERVE.md has the form of requests and answers.
 #![tactic(auto)]
 
-mod coding;
-mod lent;
-mod reply;
-mod request;
-
 use calls_defined::numbers::Call;
 use filling::fill_front;
-use reply::{fault_reply, reply};
-use request::{Fault, HEAD, Header, call_of, header_from};
+use serve_replies::reply::{fault_reply, reply};
+use serve_replies::request::{Fault, HEAD, Header, call_of, header_from};
 use std::alloc::Global;
 use std::io;
 use std::io::{Read, Write};

@@ -1,5 +1,0 @@
--- `header_from` meets its contract.
-use Rattle.serve.proofs.request.header_from.Goals as goal
-
-pub returns : goal.returns
-returns c = cc
