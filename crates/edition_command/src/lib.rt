@@ -87,7 +87,10 @@ fn wrong_sheet<'a, R: Files>(
         }
         input = input || *name == "-";
         if streams.go_into(rt, path_of(name)) {
-            return Some((*name, ": a sheet, and standard output or standard error goes into it"));
+            return Some((
+                *name,
+                ": a sheet, and standard output or standard error goes into it",
+            ));
         }
     }
     None
@@ -107,7 +110,10 @@ fn wrong_file<'a, R: Files>(
         return Some((path, ": no file can be opened by a name that isn't UTF-8"));
     }
     if streams.go_into(rt, path) {
-        return Some((path, ": named by an option, and standard output or standard error goes into it"));
+        return Some((
+            path,
+            ": named by an option, and standard output or standard error goes into it",
+        ));
     }
     match options.output() {
         Some(output) if output.is_sheet(rt, names) => {

@@ -167,7 +167,12 @@ fn with_pages<'a>(alloc: Global, command: Command<'a>) -> Result<Command<'a>, Al
         "separate",
         "Give each sheet a table of names of its own",
     )?;
-    with_flag(alloc, command, "strict", "Exit with 1 where there is a note")
+    with_flag(
+        alloc,
+        command,
+        "strict",
+        "Exit with 1 where there is a note",
+    )
 }
 
 // The report as a page.

@@ -84,7 +84,9 @@ impl Certificate {
         let text = self.kept.text()?;
         let _ = rt.eprint(&self.left_out);
         if MOST_BYTES < text.len() {
-            bail!("the certificate would be longer than 64 MB, and none could judge by it: check the sheets in parts");
+            bail!(
+                "the certificate would be longer than 64 MB, and none could judge by it: check the sheets in parts"
+            );
         }
         write_file(rt, path, &text).context("the certificate can't be written")
     }

@@ -65,7 +65,11 @@ impl<'a> Named<'a> {
                 return Ok(None);
             }
         }
-        Ok(Some(Named { names, words, input }))
+        Ok(Some(Named {
+            names,
+            words,
+            input,
+        }))
     }
 
     /// Reads the file with this name; "-" is standard input.
