@@ -52,7 +52,7 @@ pub(crate) fn constraint_lines(alloc: Global, text: &[u8]) -> Result<Vec<usize>,
 pub(crate) fn hiding_lines(alloc: Global, text: &[u8]) -> Result<Vec<usize>, AllocError> {
     let mut lines = Vec::new(alloc);
     for (k, line) in text.split(|b| *b == b'\n').enumerate() {
-        if first_byte(line) == Some(b'-') && has_line_end(line) {
+        if is_comment(line) && has_line_end(line) {
             lines.push(k.saturating_add(1))?;
         }
     }
@@ -62,11 +62,24 @@ pub(crate) fn hiding_lines(alloc: Global, text: &[u8]) -> Result<Vec<usize>, All
 // The first byte of a line that is no blank.
 fn first_byte(line: &[u8]) -> Option<u8> {
     for b in line {
-        if !matches!(*b, b' ' | b'\t' | b'\r') {
+        if !is_blank(*b) {
             return Some(*b);
         }
     }
     None
+}
+
+fn is_blank(b: u8) -> bool {
+    matches!(b, b' ' | b'\t' | b'\r')
+}
+
+fn is_comment(line: &[u8]) -> bool {
+    for (k, b) in line.iter().enumerate() {
+        if !is_blank(*b) {
+            return matches!(line.get(k..), Some([b'-', b'-', ..]));
+        }
+    }
+    false
 }
 
 // Has a line a line end in it: a carriage return that isn't its last byte, a vertical tab, a form feed, U+0085, U+2028 or U+2029?
