@@ -1,5 +1,5 @@
 -- An answer: what the call said, what the buffers hold, and both in bytes.
-use Rattle.std.specs.Prelude.{cond, Bool, List, [], ◌∷◌, ◌++◌, ℕ, ◌+◌, ◌*◌, ◌-◌, eqb, length, take, drop, replicate}
+use Rattle.std.specs.Prelude.{cond, Bool, List, [], ◌∷◌, ◌++◌, ℕ, ◌+◌, ◌*◌, ◌-◌, ◌==◌, eqb, length, take, drop, replicate}
 use Rattle.calls_defined.specs.Saying.{word}
 use Rattle.rules.specs.Base.{all}
 use Rattle.calls_defined.specs.Dispatch.{Served, dispatch}
