@@ -372,7 +372,7 @@ BOOL = ("bool",)
 
 
 def steps_of(a, names):
-    """The steps as (number, operands, type or fraction); 1 as W-211 lists it."""
+    """The steps as (number, operands, type or fraction); 1 as the papers list it."""
     words, found, stack = a["steps"], [], []
     if len(words) % 4 or len(a["types"]) % 4:
         raise Refused(1)

@@ -1,4 +1,4 @@
-"""Refused only when there is none (W-210) and lines that conflict, held against exact linear algebra; and lines (W-211) against a run on types.
+"""Choices, and lines that conflict, held against exact linear algebra; and calculation lines against a run on types.
 
 choices.py LIBRARY.so [--cases N] [--seed N] [--edition PROGRAM]
 """

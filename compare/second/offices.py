@@ -1,4 +1,4 @@
-"""Two offices (W-207), text there and back (W-202) and room got back (W-213), by calls alone: no answer is predicted here, answers are compared.
+"""Two offices, text there and back, and room got back, by calls alone: no answer is predicted here, answers are compared.
 
 offices.py LIBRARY.so [--cases N] [--seed N]
 """

@@ -1,4 +1,4 @@
-"""Records read into trees and written back, from document 01, W-206 and the readings.
+"""Records read into trees and written back, from the papers on records and lengths, and their readings.
 
 A type is a tuple: ('var', name), ('par', name), ('dim', factors), ('bool',), ('string',), ('date',), ('fn', parameters, result),
 ('struct', name, arguments, ((field, type), ..)), ('list', type), ('quant', index). A constraint: ('equal', type, type), ('isdim', type),

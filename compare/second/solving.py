@@ -1,4 +1,4 @@
-"""Replacing, adding, solving, the judge and schemes, on trees, from document 01 and the readings."""
+"""Replacing, adding, solving, the judge and schemes, on trees, from the papers and their readings."""
 
 from records import marks, nesting, sides, size, size_of
 from values import PARAMETER, QUANTIFIED, VARIABLE, Refused, divide, multiply, raised, reduced

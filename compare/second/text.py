@@ -1,4 +1,4 @@
-"""Sheets as text: the reader and the writer of W-202, from document 02, the readings T1 to T5 and docs/GRAMMAR.md.
+"""Sheets as text: the reader and the writer, from the papers, the readings T1 to T5 and docs/GRAMMAR.md.
 
 A line is first parsed into events in their order; then the events are carried out from left to right.
 """

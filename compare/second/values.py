@@ -1,4 +1,4 @@
-"""Names, exponents and products, from document 01 alone."""
+"""Names, exponents and products, from the papers alone."""
 
 from math import gcd
 
