@@ -1,4 +1,6 @@
 // The files that a command line names.
+ghost use Rattle.std.specs.Prelude.{◌≡◌, true, map, IfOk, IfSome, IsUtf8};
+
 use anyhow::Result;
 use edition_checks::files::Given;
 use edition_checks::front::Front;
@@ -54,7 +56,9 @@ impl<'a> Named<'a> {
         rt: &R,
         names: &'a [&'a str],
         words: &'a Words,
-    ) -> Result<Option<Named<'a>>> {
+    ) -> Result<Option<Named<'a>>>
+        ensures { IfOk result (λ o. IfSome o (λ n. n.names.now ≡ names.now)) }
+    {
         let input = if names.contains(&"-") {
             Some(read_input(rt)?)
         } else {
@@ -78,7 +82,9 @@ impl<'a> Named<'a> {
         rt: &R,
         name: &'a str,
         front: &mut Front,
-    ) -> Result<Given<'a>> {
+    ) -> Result<Given<'a>>
+        ensures { IfOk result (λ g. g.name.now ≡ name.now) }
+    {
         let text = match &self.input {
             Some(text) if name == "-" => copied(rt.alloc(), text)?,
             _ => self.text_of(rt, name, front)?,
@@ -100,7 +106,9 @@ impl<'a> Named<'a> {
     }
 
     /// Reads all files, one after another.
-    pub fn read_all<R: Files + AllocGlobal>(&self, rt: &R) -> Result<Vec<Given<'a>>> {
+    pub fn read_all<R: Files + AllocGlobal>(&self, rt: &R) -> Result<Vec<Given<'a>>>
+        ensures { IfOk result (λ gs. map (λ g. g.name.now) gs.items ≡ map (λ n. n.now) self.now.names.now) }
+    {
         let alloc = rt.alloc();
         let mut front = Front::new(alloc)?;
         let mut given = Vec::with_capacity(alloc, self.names.len())?;
@@ -111,7 +119,9 @@ impl<'a> Named<'a> {
     }
 
     /// Is a sheet's name not shown as it was given, since it isn't UTF-8?
-    pub fn is_replaced(&self, name: &[u8]) -> bool {
+    pub fn is_replaced(&self, name: &[u8]) -> bool
+        ensures { ¬ IsUtf8 name.now → result ≡ true }
+    {
         match from_utf8(name) {
             Ok(name) => !self.words.is_path(name),
             Err(_) => true,
