@@ -12,7 +12,7 @@ ghost use Rattle.calls_defined.specs.Dispatch.{served, dispatch};
 use calls_defined::numbers::Call;
 use calls_defined::told::{Told, asked, checked, counted, limited, solution, written};
 use calls_defined::{Asked, Lists};
-use library_pairs::judge_pairs;
+use judge_pairs::judge_pairs;
 use lines::check_line;
 use lists::{adding_to, batch, lent_told};
 use named::{compared, entered, named};

@@ -27,7 +27,7 @@ use Rattle.rules.specs.Batches.{Batch, batchCall}
 use Rattle.rules.specs.Ceiling.{ceilingCall}
 use Rattle.rules.specs.Confirming.{confirmCall}
 use Rattle.rules.specs.Lines.{checkLineCall}
-use Rattle.library_pairs.specs.Pairs.{entriesIn}
+use Rattle.judge_pairs.specs.Pairs.{entriesIn}
 use Rattle.calls_defined.specs.Factors.{exponentAt, productAt, factorWords}
 use Rattle.calls_defined.specs.Given.{nameIn}
 use Rattle.calls_defined.specs.Saying.{word, saidAs, refusedAs, checkedAs, askedAs, numberAs, orderAs, powerAs}

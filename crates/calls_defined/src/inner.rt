@@ -9,7 +9,7 @@ ghost use Rattle.calls_defined.specs.Factors.{exponentAt, factorAt, productAt, f
 use exponents::Exponent;
 use products::{Factor, Product};
 use records::inner::put;
-use replace::inner::bound::word_at;
+use names::inner::word_at;
 use rules::FACTORS;
 
 /// Numerator and denominator from a place on.

@@ -1,5 +1,5 @@
 //! Words and bytes of buffers.
-ghost use Rattle.std.specs.Prelude.{◌≡◌, ◌==◌, map, drop, slice_set};
+ghost use Rattle.std.specs.Prelude.{◌≡◌, ◌==◌, map, drop};
 ghost use Rattle.std.proofs.lemmas.List.Edits.{sets};
 ghost use Rattle.rules.specs.Base.{all};
 ghost use Rattle.calls_defined.specs.Fills.{low_byte};
@@ -11,15 +11,6 @@ pub fn low(x: u32) -> u8
     ensures { result ≡ low_byte x }
 {
     (x % 256) as u8
-}
-
-/// Sets a byte, where there is one at i.
-pub fn put_byte(out: &mut [u8], i: usize, b: u8)
-    ensures { out.new ≡ slice_set out.old i b }
-{
-    if i < out.len() {
-        out[i] = b;
-    }
 }
 
 /// Copies a list to the front of a buffer, as far as it goes.
@@ -44,7 +35,7 @@ pub fn fill_low(a: &[u32], buffer: &mut [u8])
     ensures { buffer.new ≡ sets buffer.old 0 (map low_byte a.now) }
 {
     for i in 0..a.len() {
-        put_byte(buffer, i, low(a[i]));
+        put(buffer, i, low(a[i]));
     }
 }
 

@@ -26,7 +26,8 @@ use Rattle.rules.specs.Base.{collect}
 use Rattle.rules.specs.Calls.{over}
 use Rattle.laws.proofs.Answers.{over-is}
 use Rattle.laws.specs.NameTable.{Good, start_at, endsOf}
-use Rattle.laws.proofs.NameTable.{placed, part_of, part_length, names-step, names-end, start_is, lengths-within, lengths-drop, used-is, used-within, ends-are, good-laid, count-is}
+use Rattle.laws.proofs.NameTable.{placed, part_of, part_length, names-step, names-end, start_is, lengths-within}
+use Rattle.laws.proofs.NameTable.{lengths-drop, used-is, used-within, ends-are, good-laid, count-is}
 use Rattle.records.proofs.Stores.{sets-append, sets-before, part-cut}
 use Rattle.compaction.specs.Told.{Squeezed}
 use Rattle.rules.specs.Compaction.{consIf, keptFrom, joined, endsFrom, poolOf, endsOver}
@@ -59,7 +60,8 @@ wiped d z f k h e =
     let zs = replicate {A = ℕ} k 0 in
     let n : length zs ≡ k = length-replicate k (let o : ℕ = 0 in o) in
     let m : length (take k (drop f d)) ≡ k = length-take-le k (drop f d) (omega (arith, length-drop f d)) in
-    part-cut zs d z f k k (e ∙ ap (λ (j : ℕ). replicate j 0) m ∙ sym (take_all k zs (omega (arith, n)))) refl h (omega (arith, n)) (λ l. absurd (omega (arith, n, l)))
+    let zeroes : z ≡ take k zs = e ∙ ap (λ (j : ℕ). replicate j 0) m ∙ sym (take_all k zs (omega (arith, n))) in
+    part-cut zs d z f k k zeroes refl h (omega (arith, n)) (λ l. absurd (omega (arith, n, l)))
 
 -- ══ One name more ══
 

@@ -14,7 +14,7 @@ use Rattle.records.specs.Holds.{Holds, HoldsCon}
 use Rattle.records.specs.Parsed.{only}
 use Rattle.records.specs.Views.{recs}
 use Rattle.judge_entries.proofs.Given.{type-is}
-use Rattle.library_pairs.specs.Pairs.{entriesIn}
+use Rattle.judge_pairs.specs.Pairs.{entriesIn}
 use Rattle.types.proofs.OnSets.{HoldsCons}
 use Rattle.types.specs.Runs.{HoldsEach}
 use Rattle.edition_certificates.specs.Certificates.{lineOf, saying, pairOf, pairsOf, boundTo, bindingsIn}

@@ -7,7 +7,7 @@ use Rattle.laws.proofs.Checks.{need-passed}
 use Rattle.laws.proofs.Lists.{bound-step}
 use Rattle.records.specs.Found.{Words32}
 use Rattle.judge_entries.proofs.Given.{parts}
-use Rattle.library_pairs.specs.Pairs.{entriesIn}
+use Rattle.judge_pairs.specs.Pairs.{entriesIn}
 use Rattle.theorems_soundness.proofs.Soundness.{judge-call-yes}
 use Rattle.edition_certificates.specs.Certificates.{proposes, pairsOf, boundsOf, boundNames, verified}
 use Rattle.edition_certificates.specs.Theorems.{Verified}

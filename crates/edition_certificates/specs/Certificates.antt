@@ -7,7 +7,7 @@ use Rattle.rules.specs.Names.{table_of}
 use Rattle.rules.specs.Views.{asVar}
 use Rattle.rules.specs.Writing.{words, writeBound}
 use Rattle.rules.specs.Calls.{setCall, setGiven, judgeCall}
-use Rattle.library_pairs.specs.Pairs.{entriesIn}
+use Rattle.judge_pairs.specs.Pairs.{entriesIn}
 use Rattle.edition_certificates.specs.declared.inner.Line.{Line}
 use Rattle.edition_certificates.specs.declared.inner.Line.TheVariants.{Binds, Bounds}
 

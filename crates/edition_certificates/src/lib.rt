@@ -10,7 +10,7 @@ ghost use Rattle.rules.specs.Refusals.{told};
 ghost use Rattle.edition_certificates.specs.Certificates.{verified, judged};
 
 use inner::{Proposal, proposed};
-use library_pairs::judge_pairs;
+use judge_pairs::judge_pairs;
 use records::is_set;
 use rules::{Refusal, WORK_WORDS};
 use std::alloc::{AllocError, Global};

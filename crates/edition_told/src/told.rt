@@ -96,8 +96,8 @@ pub struct Line {
     pub text: Vec<u8>,
 }
 
-/// What is told of a sheet: its file's name, what became of it, its new names as they are spelled, its page as it would be printed, and the lines that conflict, or the refusal
-/// that was met while they were looked for.
+/// What is told of a sheet: its file's name, what became of it, its new names as they are spelled, its page as it would be printed, and the lines that
+/// conflict, or the refusal that was met while they were looked for.
 #[derive(Drop)]
 pub struct SheetTold {
     pub name: Vec<u8>,

@@ -58,7 +58,8 @@ use Rattle.laws.proofs.Checks.{need-passed, first-passed, next-passed}
 use Rattle.laws.specs.Lists.{and_left, and_right}
 use Rattle.laws.proofs.Lists.{got≢refused, same-number}
 use Rattle.laws.specs.NameTable.{endsOf, start_at, Laid, Good}
-use Rattle.laws.proofs.NameTable.{lengths-step, same-no, used-is, used-within, given-good, good-given, Asked, search-any, search-found, room-is, new_is, same-yes, length-names, good-laid, good-distinct, good-is}
+use Rattle.laws.proofs.NameTable.{lengths-step, same-no, used-is, used-within, given-good, good-given, Asked, search-any}
+use Rattle.laws.proofs.NameTable.{search-found, room-is, new_is, same-yes, length-names, good-laid, good-distinct, good-is}
 use Rattle.laws.specs.Entering.{SameFront}
 
 -- ══ One end more ══

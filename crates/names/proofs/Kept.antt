@@ -28,7 +28,8 @@ use Rattle.rules.specs.declared.Was.TheVariants.{New, Known}
 use Rattle.laws.proofs.Order.{self}
 use Rattle.laws.proofs.ByteOrder.{bytes-lawful}
 use Rattle.laws.specs.NameTable.{Good, start_at}
-use Rattle.laws.proofs.NameTable.{good-given, Asked, asked-name, name-asked, search-none, free-is, part_of, start-in, part_length, name-is, placed, new_is, good-laid, length-names, good-distinct, distinct-same, held_tells}
+use Rattle.laws.proofs.NameTable.{good-given, Asked, asked-name, name-asked, search-none, free-is, part_of, start-in, part_length}
+use Rattle.laws.proofs.NameTable.{name-is, placed, new_is, good-laid, length-names, good-distinct, distinct-same, held_tells}
 use Rattle.laws.specs.Entering.{SameFront}
 use Rattle.laws.proofs.Entering.{
   Enters,

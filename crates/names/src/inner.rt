@@ -28,12 +28,18 @@ pub fn is_held(table: &[u32], i: u32) -> bool
     i < table[0]
 }
 
-// Where the name with the number k starts: at the end of the one before.
-fn start_of(table: &[u32], k: usize) -> usize
-    requires { k < length table.now }
+/// A word of a table; 0 past its end.
+pub fn word_at(table: &[u32], i: usize) -> u32
+    ensures { result ≡ get_or table.now i 0 }
+{
+    if i < table.len() { table[i] } else { 0 }
+}
+
+/// Where the name with the number k starts: at the end of the one before.
+pub fn start_of(table: &[u32], k: usize) -> u32
     ensures { result ≡ start_at table.now k }
 {
-    if k == 0 { 0 } else { table[k] as usize }
+    if k == 0 { 0 } else { word_at(table, k) }
 }
 
 /// The name with the number k: that part of the pool itself.
@@ -42,7 +48,7 @@ pub fn name_at<'a, 'b>(pool: &'a [u8], table: &'b [u32], k: usize) -> &'a [u8]
     requires held { k < get_or table.now 0 0 }
     ensures { IsPart pool.entry result (heldPart pool.now table.now k) }
 {
-    let start = start_of(table, k);
+    let start = start_of(table, k) as usize;
     let end = table[k + 1] as usize;
     &pool[start..end]
 }
@@ -72,7 +78,7 @@ fn search(pool: &[u8], table: &[u32], from: usize, name: &[u8]) -> Option<u32>
     ensures { toldOption result ≡ number_of from name.now (drop from (names_of (table_of pool.now table.now))) }
 {
     let n = table[0] as usize;
-    let mut start = start_of(table, from);
+    let mut start = start_of(table, from) as usize;
     for k in from..n {
         let end = table[k + 1] as usize;
         match compare(name, &pool[start..end]) {
@@ -209,7 +215,7 @@ fn enter_new(pool: &mut [u8], table: &mut [u32], name: &[u8]) -> Result<(u32, Wa
     if NAMES <= k {
         return Err(Refusal::NoRoom); // no number is left
     }
-    let free = start_of(table, k);
+    let free = start_of(table, k) as usize;
     if POOL_BYTES - free < name.len() {
         return Err(Refusal::NoRoom); // too few bytes are left
     }

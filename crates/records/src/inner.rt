@@ -15,12 +15,12 @@ use super::seen::record_of;
 use names::tables::NameTable;
 use std::cmp::Ordering;
 
-// Sets a word of a buffer, where there is one at i.
-pub fn put(dst: &mut [u32], i: usize, w: u32)
-    ensures { dst.new ≡ set dst.old i w }
+// Sets a word or a byte of a buffer, where there is one at i.
+pub fn put<T: Copy>(dst: &mut [T], i: usize, x: T)
+    ensures { dst.new ≡ set dst.old i x }
 {
     if i < dst.len() {
-        dst[i] = w;
+        dst[i] = x;
     }
 }
 

@@ -69,24 +69,15 @@ pub fn fill(file: &[u8], dst: &mut [u32])
     }
 }
 
-// Sets a byte of a buffer, where there is one at i.
-fn put_byte(dst: &mut [u8], i: usize, b: u8)
-    ensures { dst.new ≡ set dst.old i b }
-{
-    if i < dst.len() {
-        dst[i] = b;
-    }
-}
-
 // Writes a word with its low byte first, as far as the buffer goes: the place may lie behind its end, but the fourth from there has a number.
 fn put_word(dst: &mut [u8], i: usize, w: u32)
     requires { i < 2 ^ 60 }
     ensures { dst.new ≡ sets dst.old i (bytes_of (w ∷ [])) }
 {
-    put_byte(dst, i, (w % 256) as u8);
-    put_byte(dst, i + 1, (w / 256 % 256) as u8);
-    put_byte(dst, i + 2, (w / 65536 % 256) as u8);
-    put_byte(dst, i + 3, (w / 16777216 % 256) as u8);
+    put(dst, i, (w % 256) as u8);
+    put(dst, i + 1, (w / 256 % 256) as u8);
+    put(dst, i + 2, (w / 65536 % 256) as u8);
+    put(dst, i + 3, (w / 16777216 % 256) as u8);
 }
 
 // Writes the words from b up to e.

@@ -5,12 +5,12 @@ ghost use Rattle.rules.specs.Batches.{batchCall};
 ghost use Rattle.rules.specs.Confirming.{confirmCall};
 ghost use Rattle.rules.specs.Elimination.{eliminateCall};
 ghost use Rattle.rules.specs.Lines.{checkLineCall};
-ghost use Rattle.library_pairs.specs.Pairs.{entriesIn};
+ghost use Rattle.judge_pairs.specs.Pairs.{entriesIn};
 ghost use Rattle.shupkelen.specs.Exports.{out, addedOut, writtenOut, solvedOut, batchOut, judgedOut, eliminatedOut};
 
 use calls_defined::told::{added, asked, solution, written};
 use engine::eliminate;
-use library_pairs::judge_pairs;
+use judge_pairs::judge_pairs;
 use library_words::answers::eliminated;
 use library_words::hand;
 use lines::check_line;

@@ -49,7 +49,8 @@ use Rattle.std.proofs.lemmas.Bool.{not-true}
 use Rattle.laws.specs.Lists.{Every, and_left, and_right, all-is, all-every}
 use Rattle.laws.proofs.Lists.{every-right}
 use Rattle.laws.specs.NameTable.{Good, start_at}
-use Rattle.laws.proofs.NameTable.{placed, name-is, part_length, held-is, search-none, search-any, search-found, good-laid, length-names, distinct-same, good-distinct}
+use Rattle.laws.proofs.NameTable.{placed, name-is, part_length, held-is, search-none, search-any}
+use Rattle.laws.proofs.NameTable.{search-found, good-laid, length-names, distinct-same, good-distinct}
 use Rattle.laws.proofs.Fractions.{lowest-terms}
 use Rattle.laws.proofs.Ranges.{good-lowest}
 use Rattle.laws.specs.Sorted.{Sorted}

@@ -24,7 +24,8 @@ use Rattle.laws.proofs.Untouched.{ty_same}
 use Rattle.laws.specs.GoodProducts.{goodAtom}
 use Rattle.laws.proofs.GoodProducts.{atom-tells, good-proper}
 use Rattle.laws.specs.Lists.{All, all_nil, all_cons, in_head, all-every}
-use Rattle.laws.proofs.Lists.{true≢false, some≢none, all_append, keep-none, is_any, Came, each-went, each-came, Origin, collect-from, collect-to, map-to, is-yes}
+use Rattle.laws.proofs.Lists.{true≢false, some≢none, all_append, keep-none, is_any, Came, each-went}
+use Rattle.laws.proofs.Lists.{each-came, Origin, collect-from, collect-to, map-to, is-yes}
 use Rattle.laws.proofs.SortedNames.{sort-to}
 use Rattle.laws.specs.RuleCases.{After}
 use Rattle.laws.proofs.RuleCases.{rule}

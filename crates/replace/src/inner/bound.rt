@@ -12,16 +12,10 @@ ghost use Rattle.replace.specs.Runs.{LookedUp};
 ghost use Rattle.replace.specs.Leaves.{replaced};
 
 use crate::substitution::Substitution;
+use names::inner::word_at;
 use queries::inner::{end_of, opens_at};
 use records::Open;
 use types::Type;
-
-/// A word of the table; 0 past its end.
-pub fn word_at(places: &[u32], i: usize) -> u32
-    ensures { result ≡ get_or places.now i 0 }
-{
-    if i < places.len() { places[i] } else { 0 }
-}
 
 // The word of a variable or a parameter: only the 256 names have one.
 fn name_word(places: &[u32], first: usize, x: u32) -> u32

@@ -12,8 +12,8 @@ loop-i-init c = refl
 pub loop-i-preserved : goal.loop-i-preserved
 loop-i-preserved c =
     let l = c.loop-i in
-    fill_step (map low_byte c.args.a.now) l.buffer c.put_byte.new.out l.i _ (rw (length-map c.args.a.now low_byte) (omega arith))
-    (c.low.ensures ∙ sym (get_or-map low_byte c.args.a.now l.i 0)) c.put_byte.ensures l.invariant
+    fill_step (map low_byte c.args.a.now) l.buffer c.put.new.dst l.i _ (rw (length-map c.args.a.now low_byte) (omega arith))
+    (c.low.ensures ∙ sym (get_or-map low_byte c.args.a.now l.i 0)) c.put.ensures l.invariant
 
 pub returns : goal.returns
 returns c =

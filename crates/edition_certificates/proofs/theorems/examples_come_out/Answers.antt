@@ -2,7 +2,7 @@ use Rattle.std.specs.Prelude.{refl}
 use Rattle.rules.specs.Rules.{rules}
 use Rattle.rules.specs.Examples.{pool, table}
 use Rattle.rules.specs.Lengths.{counting}
-use Rattle.library_pairs.specs.Pairs.{entriesIn}
+use Rattle.judge_pairs.specs.Pairs.{entriesIn}
 use Rattle.edition_certificates.specs.Certificates.{lineOf, pairsOf, boundNames, proposes, verified}
 use Rattle.edition_certificates.proofs.theorems.examples_come_out.Goals as goal
 

@@ -4,4 +4,4 @@ use lib.Seq.{set_out}
 use Rattle.records.proofs.inner.put.Goals as goal
 
 pub returns-else-i-dst : goal.returns-else-i-dst
-returns-else-i-dst c = sym (set_out _ _ _ c.if-i-dst.false)
+returns-else-i-dst g c = sym (set_out _ _ _ c.if-i-dst.false)

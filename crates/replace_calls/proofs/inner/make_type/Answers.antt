@@ -68,5 +68,5 @@ returns c =
     let word : Words32 c.args.words.now = record { word = λ i. (c.type_inv.words i).fits } in
     let binds-word : Words32 c.args.binds.now = record { word = λ i. (c.type_inv.binds i).fits } in
     let n = c.in_ok-bindings.bindings.names in
-    made-as (made-apart typeGiven opens madeType type-opened c.in_ok-bindings.ensures.same word binds-word c.in_ok-given.ensures.answer c.in_ok-bindings.ensures.answer _
-    (c.in_ok-check_apart.ensures (names_of (table_of n.pool.now n.table.now)))) c.type_into.ensures
+    made-as (made-apart typeGiven opens madeType type-opened c.in_ok-bindings.ensures.same word binds-word c.in_ok-given.ensures.answer
+    c.in_ok-bindings.ensures.answer _ (c.in_ok-check_apart.ensures (names_of (table_of n.pool.now n.table.now)))) c.type_into.ensures

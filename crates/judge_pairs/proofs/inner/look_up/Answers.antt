@@ -1,8 +1,8 @@
 -- What is left decides.
 use mathlib.Core.Path.{sym, ◌∙◌}
 use native.Mathlib.Omega.{arith}
-use Rattle.library_pairs.proofs.Turns.{found_here, found-later, found_nowhere}
-use Rattle.library_pairs.proofs.inner.look_up.Goals as goal
+use Rattle.judge_pairs.proofs.Turns.{found_here, found-later, found_nowhere}
+use Rattle.judge_pairs.proofs.inner.look_up.Goals as goal
 
 pub returns-then-variable-v : goal.returns-then-variable-v
 returns-then-variable-v c = sym (found_here c.loop-rest.rest.now c.args.v (omega (arith, c.in-len2-up.len_at_least)) c.if-variable-v.true)

@@ -10,7 +10,7 @@ use Rattle.std.proofs.Math.Seq.{take_all}
 use Rattle.rules.specs.Base.{any}
 use Rattle.rules.specs.Calls.{differ}
 use Rattle.judge_entries.specs.Entries.{place_of, variablesOf}
-use Rattle.library_pairs.specs.Pairs.{entriesIn}
+use Rattle.judge_pairs.specs.Pairs.{entriesIn}
 
 -- a pair for every two words
 pub count : (ws : List ℕ) → length ws / 2 ≡ length (entriesIn ws)

@@ -6,7 +6,7 @@ pub mod inner;
 ghost use Rattle.std.specs.Prelude.{◌≡◌};
 ghost use Rattle.rules.specs.Calls.{judgeCall};
 ghost use Rattle.judge.specs.Told.{judgedAs};
-ghost use Rattle.library_pairs.specs.Pairs.{entriesIn};
+ghost use Rattle.judge_pairs.specs.Pairs.{entriesIn};
 
 use inner::slots_of;
 use judge::inner::{Proposal, judge_slots};

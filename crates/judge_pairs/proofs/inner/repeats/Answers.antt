@@ -3,9 +3,9 @@ use mathlib.Core.Path.{sym, ◌∙◌}
 use native.Mathlib.Omega.{arith}
 use lib.ListN.{get_or}
 use Rattle.judge_entries.proofs.Counting.{found-is}
-use Rattle.library_pairs.specs.Pairs.{entriesIn}
-use Rattle.library_pairs.proofs.Turns.{behind, twice_here, twice-later, twice_nowhere}
-use Rattle.library_pairs.proofs.inner.repeats.Goals as goal
+use Rattle.judge_pairs.specs.Pairs.{entriesIn}
+use Rattle.judge_pairs.proofs.Turns.{behind, twice_here, twice-later, twice_nowhere}
+use Rattle.judge_pairs.proofs.inner.repeats.Goals as goal
 
 pub returns-then-is_some : goal.returns-then-is_some
 returns-then-is_some c =

@@ -1,8 +1,8 @@
 -- What is left decides.
 use mathlib.Core.Path.{◌≡◌}
 use lib.ListN.{length}
-use Rattle.library_pairs.proofs.Turns.{repeated}
-use Rattle.library_pairs.proofs.inner.repeats.Given as goal
+use Rattle.judge_pairs.proofs.Turns.{repeated}
+use Rattle.judge_pairs.proofs.inner.repeats.Given as goal
 
 abbrev pub invariant-loop-rest : goal.invariant-loop-rest
 invariant-loop-rest l = repeated l.rest ≡ repeated l.pairs

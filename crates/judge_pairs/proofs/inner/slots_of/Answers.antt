@@ -6,9 +6,9 @@ use native.Mathlib.Omega.{arith}
 use Rattle.std.specs.Prelude.{Option}
 use Rattle.judge_entries.specs.Entries.{notedBelow}
 use Rattle.judge_entries.proofs.Counting.{noted-more}
-use Rattle.library_pairs.specs.Pairs.{entriesIn}
-use Rattle.library_pairs.proofs.Turns.{count}
-use Rattle.library_pairs.proofs.inner.slots_of.Goals as goal
+use Rattle.judge_pairs.specs.Pairs.{entriesIn}
+use Rattle.judge_pairs.proofs.Turns.{count}
+use Rattle.judge_pairs.proofs.inner.slots_of.Goals as goal
 
 all-noted : (ws : List ℕ) (places : List (Option ℕ)) (v : ℕ) → v ≡ 256 → places ≡ notedBelow (entriesIn ws) v → places ≡ notedBelow (entriesIn ws) 256
 all-noted ws places v e h = subst (λ (k : ℕ). places ≡ notedBelow (entriesIn ws) k) e h

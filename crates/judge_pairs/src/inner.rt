@@ -4,7 +4,7 @@ ghost use Rattle.rules.specs.Calls.{differ};
 ghost use Rattle.rules.specs.Refusals.{toldOption};
 ghost use Rattle.judge_entries.specs.Entries.{variablesOf, place_of};
 ghost use Rattle.judge_entries.specs.Slotted.{Slotted};
-ghost use Rattle.library_pairs.specs.Pairs.{entriesIn};
+ghost use Rattle.judge_pairs.specs.Pairs.{entriesIn};
 
 use judge_entries::inner::Slots;
 use rules::{NAMES, RECORDS};

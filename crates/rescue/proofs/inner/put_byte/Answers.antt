@@ -1,7 +1,0 @@
--- `inner::put_byte` meets its contract.
-use mathlib.Core.Path.{sym}
-use lib.Seq.{set_out}
-use Rattle.rescue.proofs.inner.put_byte.Goals as goal
-
-pub returns-else-i-dst : goal.returns-else-i-dst
-returns-else-i-dst c = sym (set_out _ _ _ c.if-i-dst.false)
