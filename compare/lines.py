@@ -11,6 +11,8 @@ STEP = {'+': 3, '-': 4, '*': 5, '/': 6, '?': 8, 'if': 9}
 KM, H, EUR, ONE = '(dim (b km 1 1))', '(dim (b h 1 1))', '(dim (b eur 1 1))', '(dim)'
 PAYEE = '(struct Payee () ((iban (str))))'
 OTHER = '(struct Other () ((iban (str))))'
+# Two types that the solver makes equal with y bound to Bool, which stands in a product of the first.
+RATIO = '(struct P ((dim (v x 1 1) (v y -1 1)) (list (var y))) ())', '(struct P ((dim) (list (bool))) ())'
 
 
 def var(x): return ('var', x)
@@ -105,6 +107,7 @@ def said():
     yield "a payee's record beside its own", Line('(bool) %s %s if' % (PAYEE, PAYEE)), None
     yield "a payee's record compared", Line('%s %s ?' % (PAYEE, OTHER)), None
     yield 'lists', Line('(bool) (list %s) (list %s) if' % (KM, KM)), None
+    yield 'arms that the judge denies', Line('(bool) (ref 0) %s if' % RATIO[1], [RATIO[0]]), None
     yield 'a missing operand', Line(KM + ' +'), 1
     yield 'two types left', Line('%s %s' % (KM, KM)), 1
     yield 'an empty line', Line(''), 1
