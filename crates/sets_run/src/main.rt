@@ -1,10 +1,13 @@
-//! Runs both engines on the listed sets and on generated ones, and compares what they answer and all that the buffers hold afterwards.
+//! Runs both engines on the listed sets and on generated ones, and compares what they answer and all that the buffers hold afterwards; and asks of listed sets
+//! which lines conflict.
 #![tactic(auto)]
 
+mod conflicts;
 mod engines;
 mod sets;
 
 use anyhow::{Context, Result};
+use conflicts::conflicts_as;
 use engines::{Outcome, RESULT_BEFORE, eliminated, solved};
 use sets::{Table, numbers, two_lines};
 use std::alloc::Global;
@@ -59,15 +62,21 @@ fn both(alloc: Global, table: &Table, words: &[u32]) -> Result<Seen> {
     Ok(compared(&solver, &second))
 }
 
-/// A line's set, with what it says of the outcomes before it: does it say what is seen?
+/// A line's set, behind what must come out of it: both engines `alike`; `unfit`, for the second alone; `conflict` and the places of the lines, none of them
+/// where no lines do.
 fn as_listed(alloc: Global, table: &Table, line: &str) -> Result<bool> {
     let (expected, words) = line.split_once(':').context("no set")?;
-    let seen = both(alloc, table, &numbers(alloc, words)?)?;
-    Ok(match seen {
-        Seen::Alike => expected == "alike",
-        Seen::Unfit => expected == "unfit",
-        Seen::Differ => false,
-    })
+    let words = numbers(alloc, words)?;
+    match expected {
+        "alike" => Ok(both(alloc, table, &words)? == Seen::Alike),
+        "unfit" => Ok(both(alloc, table, &words)? == Seen::Unfit),
+        _ => {
+            let places = expected
+                .strip_prefix("conflict")
+                .context("no such outcome")?;
+            conflicts_as(alloc, table, &numbers(alloc, places)?, &words)
+        }
+    }
 }
 
 /// Writes how many sets were run.

@@ -9,7 +9,7 @@ use std::alloc::{AllocError, Global};
 pub const RESULT_BEFORE: u32 = 0xaaaaaaaa;
 
 /// What the words of the work buffer are before a call.
-const WORK_BEFORE: u32 = 0x55555555;
+pub const WORK_BEFORE: u32 = 0x55555555;
 
 /// The number of an outcome (0, 5, or the refusal's), the records of bindings or of what remains, and those of bounds; and what the buffers hold then.
 #[derive(Drop, PartialEq)]
