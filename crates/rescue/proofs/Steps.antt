@@ -229,6 +229,10 @@ module _ (pool table s : List ℕ) (w : Words32 s) where
           few = rw e (zero-add _);
         }
 
+    -- before the end there is a piece more
+    fuel-left : {kept skipped : List ℕ} {at k m : ℕ} → at < N → (l : LeftAt kept skipped at k m) → l.fuel ≡ suc (l.fuel - 1)
+    fuel-left lt l = omega (arith, l.enough, lt)
+
     module _ (kept skipped : List ℕ) (at k m : ℕ) (lt : at < N) where
       -- a constraint was written
       module _ (e : ℕ) (c : Con ℕ) (g : GoodCon pool table 0 s at c e) (kept' : List ℕ)
@@ -263,27 +267,19 @@ module _ (pool table s : List ℕ) (w : Words32 s) where
         same-places ps = ap (λ (j : ℕ). skippedFrom j ps) g.past
 
         pub left-sound : LeftAt kept skipped at k m → LeftAt kept' skipped e (k + (e - at)) m
-        left-sound l = go l.fuel l.enough l.bytes l.places l.many l.few
-          where
-            all : List Piece
-            all = piecesIn (table_of pool table) s
-
-            go : (f : ℕ) → N ≤ at + f → sets kept (k * 16) (keptBytes (some-pieces f (from s at))) ≡ sets kept₀ 0 (keptBytes all)
-                → sets skipped m (skippedFrom at (some-pieces f (from s at))) ≡ sets skipped₀ 0 (skippedFrom 0 all)
-                → k + length (keptIn (some-pieces f (from s at))) ≡ length (keptIn all)
-                → m + length (skippedFrom at (some-pieces f (from s at))) ≡ length (skippedFrom 0 all) → LeftAt kept' skipped e (k + (e - at)) m
-            go zero h b p x y = absurd (omega arith)
-            go (suc n) h b p x y =
-                let q = pieces-sound n at e c lt g in
-                let u = same-places (some-pieces n (from s e)) ∙ ap (skippedFrom at) (sym q) in
-                record {
-                  fuel = n;
-                  enough = omega (arith, (con-moves pool table 0 s at c e g).0);
-                  bytes = wrote_then (some-pieces n (from s e)) ∙ ap (λ (v : List Piece). sets kept (k * 16) (keptBytes v)) (sym q) ∙ b;
-                  places = ap (sets skipped m) u ∙ p;
-                  many = more n ∙ ap (λ (v : List Piece). k + length (keptIn v)) (sym q) ∙ x;
-                  few = ap (λ (v : List ℕ). m + length v) u ∙ y;
-                }
+        left-sound l =
+            let n = l.fuel - 1 in
+            let f : l.fuel ≡ suc n = fuel-left lt l in
+            let q = pieces-sound n at e c lt g in
+            let u = same-places (some-pieces n (from s e)) ∙ ap (skippedFrom at) (sym q) in
+            record {
+              fuel = n;
+              enough = omega (arith, (con-moves pool table 0 s at c e g).0, l.enough, f);
+              bytes = wrote_then (some-pieces n (from s e)) ∙ ap (λ (v : List Piece). sets kept (k * 16) (keptBytes v)) (sym q) ∙ (rw f at l.bytes);
+              places = ap (sets skipped m) u ∙ (rw f at l.places);
+              many = more n ∙ ap (λ (v : List Piece). k + length (keptIn v)) (sym q) ∙ (rw f at l.many);
+              few = ap (λ (v : List ℕ). m + length v) u ∙ (rw f at l.few);
+            }
 
       -- a place was noted
       module _ (none_here : (c : Con ℕ) (e : ℕ) → GoodCon pool table 0 s at c e → ⊥) (skipped' : List ℕ) (noted : skipped' ≡ set skipped m at) where
@@ -296,31 +292,22 @@ module _ (pool table s : List ℕ) (w : Words32 s) where
         place-more r ps = refl
 
         pub left-lost : LeftAt kept skipped at k m → LeftAt kept skipped' (at + 1) k (m + 1)
-        left-lost l = go l.fuel l.enough l.bytes l.places l.many l.few
-          where
-            all : List Piece
-            all = piecesIn (table_of pool table) s
-
-            go : (f : ℕ) → N ≤ at + f → sets kept (k * 16) (keptBytes (some-pieces f (from s at))) ≡ sets kept₀ 0 (keptBytes all)
-                → sets skipped m (skippedFrom at (some-pieces f (from s at))) ≡ sets skipped₀ 0 (skippedFrom 0 all)
-                → k + length (keptIn (some-pieces f (from s at))) ≡ length (keptIn all)
-                → m + length (skippedFrom at (some-pieces f (from s at))) ≡ length (skippedFrom 0 all) → LeftAt kept skipped' (at + 1) k (m + 1)
-            go zero h b p x y = absurd (omega arith)
-            go (suc n) h b p x y =
-                let rest = some-pieces n (from s (at + 1)) in
-                let q = pieces-lost n at lt none_here in
-                let u : keptIn rest ≡ keptIn (some-pieces (suc n) (from s at)) = sym (ap keptIn q ∙ kept_same (recAt s at) rest) in
-                let v : at ∷ skippedFrom (at + 1) rest ≡ skippedFrom at (some-pieces (suc n) (from s at)) =
-                sym (ap (skippedFrom at) q ∙ place-more (recAt s at) rest) in
-                let i : m + 1 ≡ suc m = add-one m in
-                record {
-                  fuel = n;
-                  enough = omega arith;
-                  bytes = ap (λ (r : List Rec). sets kept (k * 16) (bytes_of (words r))) u ∙ b;
-                  places = ap₂ (λ (d : List ℕ) (j : ℕ). sets d j (skippedFrom (at + 1) rest)) noted i ∙ ap (sets skipped m) v ∙ p;
-                  many = ap (λ (r : List Rec). k + length r) u ∙ x;
-                  few = omega (arith, ap length v, y);
-                }
+        left-lost l =
+            let n = l.fuel - 1 in
+            let f : l.fuel ≡ suc n = fuel-left lt l in
+            let rest = some-pieces n (from s (at + 1)) in
+            let q = pieces-lost n at lt none_here in
+            let u : keptIn rest ≡ keptIn (some-pieces (suc n) (from s at)) = sym (ap keptIn q ∙ kept_same (recAt s at) rest) in
+            let v : at ∷ skippedFrom (at + 1) rest ≡ skippedFrom at (some-pieces (suc n) (from s at)) =
+            sym (ap (skippedFrom at) q ∙ place-more (recAt s at) rest) in
+            record {
+              fuel = n;
+              enough = omega (arith, l.enough, f);
+              bytes = ap (λ (r : List Rec). sets kept (k * 16) (bytes_of (words r))) u ∙ (rw f at l.bytes);
+              places = ap₂ (λ (d : List ℕ) (j : ℕ). sets d j (skippedFrom (at + 1) rest)) noted (add-one m) ∙ ap (sets skipped m) v ∙ (rw f at l.places);
+              many = ap (λ (r : List Rec). k + length r) u ∙ (rw f at l.many);
+              few = omega (arith, ap length v, rw f at l.few);
+            }
 
     -- nothing is left
     pub left-done : (kept skipped : List ℕ) (at k m : ℕ) → N ≤ at → LeftAt kept skipped at k m → (r : Counts) → r.kept ≡ k → r.skipped ≡ m → k + m ≤ 2048
