@@ -1,0 +1,3 @@
+pub mod Steps
+pub mod Keys
+pub mod Compared

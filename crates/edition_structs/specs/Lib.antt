@@ -1,0 +1,4 @@
+pub mod Structs
+pub mod Compared
+pub mod Told
+pub mod CasesOfStructs
