@@ -6,11 +6,11 @@ ghost use Rattle.records.specs.declared.View;
 ghost use Rattle.types.specs.Binds.{IsBinds};
 ghost use Rattle.replace_table.specs.Filling.{noted, Fills};
 
+use names::inner::word_at;
 use queries::inner::end_of;
 use records::View;
 use records::inner::put;
 use records::seen::view_at;
-use replace::inner::bound::word_at;
 
 // Notes the binding at a place, unless its variable was bound before.
 fn note(v: &[u32], at: usize, places: &mut [u32])
