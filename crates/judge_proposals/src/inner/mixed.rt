@@ -11,11 +11,11 @@ ghost use Rattle.queries.specs.Marks.{Has, Small};
 ghost use Rattle.queries.specs.Scans.{choose, opensIn};
 ghost use Rattle.judge_proposals.specs.Mixed.{opens_of, opensBelow, Table};
 
+use names::inner::word_at;
 use queries::Kind;
 use queries::inner::{chosen, end_of};
 use queries::name_set::NameSet;
 use records::Open;
-use replace::inner::bound::word_at;
 
 /// Puts in the names of a variable and of its type, if its word says that it has one.
 fn add_bound(types: &[u32], x: u32, w: u32, k: Kind, names: &mut NameSet)
