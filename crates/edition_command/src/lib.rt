@@ -2,15 +2,22 @@
 //! each, in order, and a last line for all. docs/EDITION.md says what the report tells, and what the status means.
 #![tactic(auto)]
 
-ghost use Rattle.std.specs.Prelude.{◌≡◌, OnErr};
+ghost use Rattle.std.specs.Prelude.{◌≡◌, true, map, IsErr, IfOk, MatchResult, OnErr};
+ghost use Rattle.std.specs.String.{string_bytes};
+ghost use Rattle.edition_command.specs.Promise.{isHelp, asksAlone};
 
-use anyhow::{Context, Error, Result, anyhow, bail};
+mod arguments;
+mod overwriting;
+
+use crate::arguments::{command, options_of};
+use crate::overwriting::{Streams, is_sheet, may_be_written};
+use anyhow::{Context, Result, anyhow, bail};
 use clap::error::ErrorKind;
 pub use edition_checks::status::Status;
 use edition_checks::status::{Totals, status_of};
 use edition_notes::shown::push_shown;
-use edition_options::options::{Form, Options, command};
-use edition_options::output::{Streams, path_of};
+use edition_options::options::{Form, Options};
+use edition_options::output::path_of;
 use edition_text::{apart, together, verify};
 use edition_told::files::Named;
 pub use edition_words::Words;
@@ -31,16 +38,28 @@ fn check<R: Files + Input + Print + Eprint + AllocGlobal>(
     }
 }
 
+// Does a word ask for help or for the version?
+#[tactic(auto, unfolding(crate::specs::Promise::isHelp))]
+fn is_help(word: &str) -> bool
+    ensures { result ≡ isHelp word.now }
+{
+    matches!(word, "-h" | "--help" | "-V" | "--version")
+}
+
 // Is the one word of a command line that asks for help or for the version? Beside others it may be a sheet whose name begins with "-".
-fn asks_alone(words: &Words) -> bool {
+fn asks_alone(words: &Words) -> bool
+    ensures { result ≡ asksAlone (map string_bytes words.now.all.items) }
+{
     match words.all.as_slice() {
-        [_, word] => matches!(word.as_str(), "-h" | "--help" | "-V" | "--version"),
+        [_, word] => is_help(word.as_str()),
         _ => false,
     }
 }
 
 // Prints what a command line is answered that names no files to check: help, the version, or the mistake in it.
-fn answer<R: Print + Eprint>(rt: &R, words: &Words, error: &clap::Error) -> Result<Status> {
+fn answer<R: Print + Eprint>(rt: &R, words: &Words, error: &clap::Error) -> Result<Status>
+    ensures { IfOk result (λ s. s ≡ Status.Accepted → asksAlone (map string_bytes words.now.all.items) ≡ true) }
+{
     if error.kind() == ErrorKind::OutOfMemory {
         return Err(anyhow!("out of memory"));
     }
@@ -115,12 +134,10 @@ fn wrong_file<'a, R: Files>(
             ": named by an option, and standard output or standard error goes into it",
         ));
     }
-    match options.output() {
-        Some(output) if output.is_sheet(rt, names) => {
-            Some((path, ": named as a sheet, and as the file to write"))
-        }
-        _ => None,
+    if options.output().is_some() && is_sheet(rt, path, names) {
+        return Some((path, ": named as a sheet, and as the file to write"));
     }
+    None
 }
 
 // What is wrong with the files of a command line, as a line, if something is.
@@ -147,7 +164,7 @@ fn check_output<R: Files + AllocGlobal>(rt: &R, options: Options) -> Result<()> 
         return Ok(());
     };
     let unread = line_on(rt, output.path(), ": can't be read: not overwritten")?;
-    if output.may_be_written(rt).context(unread)? {
+    if may_be_written(rt, output).context(unread)? {
         return Ok(());
     }
     let path = line_on(rt, output.path(), ": exists, and is no ")?;
@@ -193,22 +210,38 @@ fn check_words<R: Files + Input + Print + Eprint + AllocGlobal>(
         Ok(matches) => matches,
         Err(error) => return answer(rt, words, &error),
     };
-    let options = Options::of(&matches);
-    match (matches.get_strs("FILE"), options.form) {
-        (Some(names), _) => check_names(rt, words, names, options),
-        (None, Form::Verified(_)) => {
+    let options = options_of(&matches);
+    let names = matches.get_strs("FILE").unwrap_or(&[]);
+    match (names, options.form) {
+        ([], Form::Verified(_)) => {
             Ok(mistake(rt, "no sheet: name those to be judged by the certificate"))
         }
-        (None, _) => check_names(rt, words, &["-"], options),
+        ([], _) => check_names(rt, words, &["-"], options),
+        _ => check_names(rt, words, names, options),
     }
 }
 
-// There is no whole report: standard error says why.
-fn no_report<R: Eprint>(rt: &R, error: &Error) -> Status
-    ensures { result ≡ Status.NoReport }
+// What the words of a command line come to, if they can be had.
+fn checked<R: Files + Input + Print + Eprint + AllocGlobal>(
+    rt: &R,
+    words: Result<Words>,
+) -> Result<Status>
+    ensures { OnErr words (IsErr result) }
 {
-    let _ = eprintln!(rt; "check_edition: {error:#}");
-    Status::NoReport
+    check_words(rt, &words?)
+}
+
+// There is no whole report: standard error says why.
+fn ended<R: Eprint>(rt: &R, outcome: Result<Status>) -> Status
+    ensures { MatchResult outcome (λ s. result ≡ s) (λ e. result ≡ Status.NoReport) }
+{
+    match outcome {
+        Ok(status) => status,
+        Err(error) => {
+            let _ = eprintln!(rt; "check_edition: {error:#}");
+            Status::NoReport
+        }
+    }
 }
 
 /// Runs the command with the words of a command line, the first of which is its own name: what it comes to. Where there is no whole report, standard
@@ -216,12 +249,5 @@ fn no_report<R: Eprint>(rt: &R, error: &Error) -> Status
 pub fn run<R: Files + Input + Print + Eprint + AllocGlobal>(rt: &R, words: Result<Words>) -> Status
     ensures { OnErr words (result ≡ Status.NoReport) }
 {
-    let words = match words {
-        Ok(words) => words,
-        Err(error) => return no_report(rt, &error),
-    };
-    match check_words(rt, &words) {
-        Ok(status) => status,
-        Err(error) => no_report(rt, &error),
-    }
+    ended(rt, checked(rt, words))
 }

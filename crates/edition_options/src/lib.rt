@@ -1,5 +1,6 @@
-//! What a command line of `check_edition` asks for: its options, and the file that is to be written, which overwrites nothing else.
+//! What a command line of `check_edition` asks for, as values; and a file that is made anew.
 #![tactic(auto)]
 
 pub mod options;
 pub mod output;
+pub mod writing;
