@@ -1,2 +1,4 @@
+pub mod Counting
 mod Edition
 mod LinesKept
+pub mod Passing

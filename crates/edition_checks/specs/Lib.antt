@@ -1,3 +1,5 @@
-pub mod Status
+pub mod Counts
 pub mod Given
 pub mod Keeping
+pub use Rattle.edition_status.specs.Sheets
+pub use Rattle.edition_status.specs.Status

@@ -7,10 +7,10 @@ ghost use Rattle.edition_checks.specs.Given.{editionOf, pagesTold};
 
 use crate::files::Given;
 use crate::tables::Tables;
-use crate::written::Written;
 use anyhow::{Context, Result};
 use edition::model::{How, Room};
 use edition::telling::tell_each;
+use edition_status::written::Written;
 use std::alloc::Global;
 use std::io::Write;
 

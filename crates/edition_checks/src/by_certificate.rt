@@ -5,10 +5,10 @@ ghost use Rattle.edition_verify.specs.Verifying.{TrueBy, sheetsIn, verifiedIn, v
 ghost use Rattle.edition_checks.specs.Given.{given_of};
 
 use crate::files::{Given, lend};
-use crate::status::Totals;
-use crate::written::Written;
 use anyhow::{Context, Result};
 use edition_certificate_file::Entry;
+use edition_status::status::Totals;
+use edition_status::written::Written;
 use edition_verify::verify_files;
 use std::alloc::Global;
 use std::io::Write;

@@ -8,10 +8,10 @@ ghost use Rattle.edition_checks.specs.Given.{editionOf};
 
 use crate::files::{Given, lend};
 use crate::tables::Tables;
-use crate::written::Written;
 use anyhow::{Context, Result, bail};
 use edition::model::How;
 use edition::{Counts, Failed, report_as};
+use edition_status::written::Written;
 use std::alloc::Global;
 use std::io::Write;
 

@@ -1,6 +1,6 @@
 // Room to read a sheet in.
-ghost use Rattle.std.specs.Prelude.{◌≡◌, List, ℕ, length, replicate, IfOk, Some};
-ghost use Rattle.edition_checks.specs.Given.{IsSheetOf};
+ghost use Rattle.std.specs.Prelude.{◌≡◌, List, ℕ, length, IfOk, Some};
+ghost use Rattle.edition_status.specs.Sheets.{IsSheetOf, noBytes};
 
 use filling::fill_front;
 use rules::Unseen;
@@ -20,7 +20,7 @@ pub struct Front {
 impl Front {
     /// All zero.
     pub fn new(alloc: Global) -> Result<Front, AllocError>
-        ensures { IfOk result (λ f. f.bytes.items ≡ replicate 1048577 0) }
+        ensures { IfOk result (λ f. f.bytes.items ≡ noBytes) }
     {
         let bytes = vec![in alloc; 0u8; SHEET_BYTES + 1]?;
         Ok(Front { bytes })

@@ -1,6 +1,8 @@
 // What a run comes to, and its exit status.
 ghost use Rattle.std.specs.Prelude.{◌≡◌, ◌||◌, ◌&&◌, ◌+◌, ◌-◌, ◌^◌, min, ltb, if◌then◌else◌};
-ghost use Rattle.edition_checks.specs.Status.{code_of};
+ghost use Rattle.edition_status.specs.Status.{code_of, endedAs};
+
+use anyhow::Result;
 
 /// What was counted: sheets, those that are accepted, the names of the fullest table, and notes.
 #[derive(Clone, Copy)]
@@ -75,4 +77,17 @@ pub fn status_of(totals: Totals, strict: bool) -> Status
         return Status::Refused;
     }
     Status::Accepted
+}
+
+/// Ends a run: what it comes to. Where it fails there is no whole report, and standard error says why.
+pub fn ended<R: Eprint>(rt: &R, outcome: Result<Status>) -> Status
+    ensures { result ≡ endedAs outcome }
+{
+    match outcome {
+        Ok(status) => status,
+        Err(error) => {
+            let _ = eprintln!(rt; "check_edition: {error:#}");
+            Status::NoReport
+        }
+    }
 }

@@ -1,13 +1,11 @@
 // Reads and writes that fail on the way.
-use crate::files::Given;
 use crate::front::Front;
-use crate::together::report_on;
 use crate::written::Written;
-use edition::model::How;
-use rules::{Shown, Unseen};
+use rules::Unseen;
 use std::io;
 use std::io::{Read, Write};
 use std::test::Fail;
+use text_spell::sink::Sink;
 
 /// Hands out so many bytes, and then fails.
 #[derive(Drop)]
@@ -60,24 +58,15 @@ fn a_read_that_fails_leaves_no_sheet(rt: HostRuntime) -> Result<(), Fail> {
 }
 
 #[test]
-fn a_report_that_is_torn_is_no_report(rt: HostRuntime) -> Result<(), Fail> {
-    let alloc = rt.alloc();
-    let given = [Given {
-        name: "a.sheet",
-        text: Ok(b"?x ~ [#m]\n".to_vec(alloc)?),
-    }];
-    let how = How {
-        shown: Shown::All,
-        why: false,
-    };
-    let mut whole = Written::new(alloc, Full { left: 1_000 });
-    assert!(rt; report_on(alloc, &given, how, &mut whole).is_ok());
-    for left in 0..whole.passed.len() {
-        let mut torn = Written::new(alloc, Full { left });
-        assert!(rt;
-            report_on(alloc, &given, how, &mut torn).is_err(),
-            "after {left} bytes"
-        );
+fn bytes_that_are_torn_are_not_passed_on(rt: HostRuntime) -> Result<(), Fail> {
+    let page: &[u8] = b"a.sheet: accepted\n";
+    let mut whole = Written::new(rt.alloc(), Full { left: 1_000 });
+    assert!(rt; whole.put(page).is_ok());
+    assert!(rt; whole.passed.as_slice() == page);
+    for left in 0..page.len() {
+        let mut torn = Written::new(rt.alloc(), Full { left });
+        assert!(rt; torn.put(page).is_err(), "after {left} bytes");
+        assert!(rt; torn.passed.is_empty(), "after {left} bytes");
     }
     Ok(())
 }

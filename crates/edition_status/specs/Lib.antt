@@ -1,0 +1,2 @@
+pub mod Status
+pub mod Sheets
