@@ -1,110 +1,68 @@
 // Sheets each over a name table of its own.
-use crate::certificate::Certificate;
+ghost use Rattle.std.specs.Prelude.{map, IfOk};
+ghost use Rattle.edition_checks.specs.Counts.{CountsApart};
+
+use crate::beside::Beside;
 use crate::how::how_of;
+use crate::output::output;
 use anyhow::{Context, Result};
 use edition::model::Room;
 use edition_checks::alone::tell_alone;
-use edition_checks::files::Given;
 use edition_checks::front::Front;
 use edition_checks::status::Totals;
 use edition_checks::written::Written;
-use edition_notes::notes::Notes;
 use edition_options::options::Options;
 use edition_report::words::put_total;
 use edition_told::files::Named;
-use edition_told::listing::list;
-use std::alloc::Global;
-use std::io;
-use std::io::{BufWriter, Write};
+use std::io::Write;
 use std::rt::Files;
 use text_spell::sink::Sink;
 
-/// What the sheets so far come to, their names as they are listed, what is kept of them, and room to work in.
-#[derive(Drop)]
-struct Apart {
-    totals: Totals,
-    listed: Vec<u8>,
-    kept: Certificate,
-    room: Room,
-}
-
-impl Apart {
-    // No sheet yet.
-    fn new(alloc: Global) -> Apart {
-        Apart {
-            totals: Totals::NONE,
-            listed: Vec::new(alloc),
-            kept: Certificate::new(alloc),
-            room: Room::new(),
-        }
-    }
-
-    // Tells of one sheet, lists its names and takes it into what is kept, if that was asked for, and says what is noted.
-    fn add<R: Eprint + AllocGlobal, W: Write + Drop>(
-        &mut self,
-        rt: &R,
-        given: &Given,
-        options: Options,
-        out: &mut Written<W>,
-    ) -> Result<()> {
-        let alloc = rt.alloc();
-        let files = [given.file()];
-        let told = tell_alone(alloc, given, how_of(options), &mut self.room, out)?;
-        if options.names {
-            self.listed.extend_from_slice(&list(alloc, &files)?)?;
-        }
-        let mut notes = Notes::new(alloc);
-        notes.add(told.tables.names()?, &files)?;
-        notes.tell(rt);
-        self.totals = self
-            .totals
-            .and(told.accepted, told.tables.count(), notes.count);
-        if options.certificate.is_some() {
-            self.kept.add(alloc, &files)?;
-        }
-        Ok(())
-    }
-
-    // Puts the last line, and the names behind it.
-    fn put_end<W: Write + Drop>(&self, out: &mut Written<W>) -> Result<()> {
-        let totals = self.totals;
-        put_total(out, totals.sheets, totals.accepted, totals.names).context(
-            "the report can't be written",
-        )?;
-        out.put(&self.listed).context("the names can't be written")
-    }
-}
-
 // Reads each file and tells of it, one after another.
-fn add_each<R: Files + Input + Eprint + AllocGlobal, W: Write + Drop>(
+fn tell_each<R: Files + Input + Eprint + AllocGlobal, W: Write + Drop>(
     rt: &R,
     named: &Named,
     options: Options,
-    so_far: &mut Apart,
+    beside: &mut Beside,
     out: &mut Written<W>,
-) -> Result<()> {
-    let mut front = Front::new(rt.alloc())?;
+) -> Result<Totals>
+    ensures { IfOk result (λ t. CountsApart (map (λ n. n.now) named.now.names.now) t.sheets t.accepted) }
+{
+    let alloc = rt.alloc();
+    let mut front = Front::new(alloc)?;
+    let mut room = Room::new();
+    let mut totals = Totals::NONE;
     for name in named.names {
         let given = named.read(rt, name, &mut front)?;
-        so_far.add(rt, &given, options, out)?;
+        let told = tell_alone(alloc, &given, how_of(options), &mut room, out)?;
+        let noted = beside.add(rt, &given, &told.tables, options)?;
+        totals = totals.and(told.accepted, told.tables.count(), noted);
     }
-    Ok(())
+    Ok(totals)
 }
 
-/// Reads each file and tells of it, one after another; names and certificate come behind.
+// Puts the last line, and the names behind it.
+fn put_end<W: Write + Drop>(totals: Totals, listed: &[u8], out: &mut Written<W>) -> Result<()> {
+    put_total(out, totals.sheets, totals.accepted, totals.names).context(
+        "the report can't be written",
+    )?;
+    out.put(listed).context("the names can't be written")
+}
+
+/// Reads each file and tells of it, one after another; names and certificate come behind. Every file is counted, and each sheet that is accepted as the edition
+/// that it is alone.
 pub fn check<R: Files + Input + Print + Eprint + AllocGlobal>(
     rt: &R,
     named: &Named,
     options: Options,
-) -> Result<Totals> {
-    let alloc = rt.alloc();
-    let mut out = Written::new(alloc, BufWriter::new(alloc, io::writer(rt))?);
-    let mut so_far = Apart::new(alloc);
-    add_each(rt, named, options, &mut so_far, &mut out)?;
-    so_far.put_end(&mut out)?;
-    if let Some(path) = options.certificate {
-        so_far.kept.write(rt, path)?;
-    }
-    so_far.kept.is_whole()?;
-    Ok(so_far.totals)
+) -> Result<Totals>
+    ensures { IfOk result (λ t. CountsApart (map (λ n. n.now) named.now.names.now) t.sheets t.accepted) }
+{
+    let mut out = output(rt)?;
+    let mut beside = Beside::new(rt.alloc());
+    let totals = tell_each(rt, named, options, &mut beside, &mut out)?;
+    put_end(totals, &beside.listed, &mut out)?;
+    beside.kept.write(rt, options)?;
+    beside.kept.is_whole()?;
+    Ok(totals)
 }

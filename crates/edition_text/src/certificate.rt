@@ -7,6 +7,7 @@ use edition_certified::Verdict;
 use edition_checks::keeping::Keeping;
 use edition_checks::tables::Tables;
 use edition_notes::shown::push_shown;
+use edition_options::options::Options;
 use edition_options::output::write_file;
 use rules::{Refusal, Shown};
 use std::alloc::Global;
@@ -79,10 +80,33 @@ impl Certificate {
         Ok(())
     }
 
-    /// Writes it into a file, which is made anew, and says which sheets aren't in it.
-    pub(crate) fn write<R: Files + Eprint + AllocGlobal>(&self, rt: &R, path: &str) -> Result<()> {
-        let text = self.kept.text()?;
+    /// Writes it into the file that was named for it, if one was, which is made anew, and says which sheets aren't in it. Where none is, nothing is written.
+    pub(crate) fn write<R: Files + Eprint + AllocGlobal>(
+        &self,
+        rt: &R,
+        options: Options,
+    ) -> Result<()> {
         let _ = rt.eprint(&self.left_out);
+        match options.certificate {
+            Some(_) if self.kept.entries.is_empty() => self.tell_none(rt),
+            Some(path) => self.write_into(rt, path)?,
+            None => {}
+        }
+        Ok(())
+    }
+
+    // Says that no sheet is accepted, if that is why none is kept: what the file held stays.
+    fn tell_none<R: Eprint>(&self, rt: &R) {
+        if self.left_out.is_empty() {
+            let _ = eprintln!(rt;
+                "check_edition: no sheet is accepted: the certificate isn't written"
+            );
+        }
+    }
+
+    // Writes it into a file, which is made anew.
+    fn write_into<R: Files + AllocGlobal>(&self, rt: &R, path: &str) -> Result<()> {
+        let text = self.kept.text()?;
         if MOST_BYTES < text.len() {
             bail!(
                 "the certificate would be longer than 64 MB, and none could judge by it: check the sheets in parts"

@@ -2,7 +2,9 @@
 #![tactic(auto)]
 
 pub mod apart;
+mod beside;
 mod certificate;
 mod how;
+mod output;
 pub mod together;
 pub mod verify;

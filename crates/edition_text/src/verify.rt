@@ -1,4 +1,8 @@
 // Sheets judged by a certificate, with nothing solved: a line for each.
+ghost use Rattle.std.specs.Prelude.{map, IfOk};
+ghost use Rattle.edition_checks.specs.Counts.{CountsCertified};
+
+use crate::output::output;
 use anyhow::{Context, Result};
 use edition_certificate_file::{Entry, Fault, read_certificate};
 use edition_checks::by_certificate::verify_on;
@@ -10,9 +14,9 @@ use edition_told::files::Named;
 use filling::fill_front;
 use rules::Unseen;
 use std::alloc::AllocError;
-use std::io::{BufWriter, Write};
+use std::fs;
+use std::io::Write;
 use std::rt::Files;
-use std::{fs, io};
 use text_spell::sink::Sink;
 
 /// A certificate's file is read in pieces of so many bytes.
@@ -100,21 +104,32 @@ fn kept_in<R: Files + AllocGlobal>(rt: &R, path: &str) -> Result<Result<Vec<Entr
     }
 }
 
-/// Judges the files with these names by the certificate in the file at `path`; where there is none, no sheet is verified.
+// What the certificate in a file keeps; where it can't be used a line is put that says why, and it keeps nothing.
+fn entries_in<R: Files + AllocGlobal, W: Write + Drop>(
+    rt: &R,
+    path: &str,
+    out: &mut Written<W>,
+) -> Result<Vec<Entry>> {
+    match kept_in(rt, path)? {
+        Ok(entries) => Ok(entries),
+        Err(line) => {
+            out.put(&line).context("what is verified can't be written")?;
+            Ok(Vec::new(rt.alloc()))
+        }
+    }
+}
+
+/// Judges the files with these names by the certificate in the file at `path`; where there is none, no sheet is verified. Counted are the files and what else
+/// the certificate keeps, and the files that are verified.
 pub fn check<R: Files + Input + Print + AllocGlobal>(
     rt: &R,
     path: &str,
     named: &Named,
-) -> Result<Totals> {
-    let alloc = rt.alloc();
-    let mut out = Written::new(alloc, BufWriter::new(alloc, io::writer(rt))?);
-    let entries = match kept_in(rt, path)? {
-        Ok(entries) => entries,
-        Err(line) => {
-            out.put(&line).context("what is verified can't be written")?;
-            Vec::new(alloc)
-        }
-    };
+) -> Result<Totals>
+    ensures { IfOk result (λ t. CountsCertified (map (λ n. n.now) named.now.names.now) t.sheets t.accepted) }
+{
+    let mut out = output(rt)?;
+    let entries = entries_in(rt, path, &mut out)?;
     let given = named.read_all(rt)?;
-    verify_on(alloc, &entries, &given, &mut out)
+    verify_on(rt.alloc(), &entries, &given, &mut out)
 }
