@@ -1,6 +1,9 @@
 //! An edition's report as one value of JSON.
 #![tactic(auto)]
 
+ghost use Rattle.std.specs.Prelude.{map, IfOk};
+ghost use Rattle.edition_checks.specs.Counts.{CountsOf};
+
 use anyhow::Result;
 use edition_checks::status::Totals;
 use edition_notes::notes::Notes;
@@ -183,11 +186,13 @@ fn report_line(alloc: Global, named: &Named, report: &Report) -> Result<String, 
 }
 
 /// Writes what is told of the files as one value, and says what is noted.
-pub fn check<R: Files + Input + Print + Eprint + AllocGlobal>(
+pub fn check<R: Files + Print + Eprint + AllocGlobal>(
     rt: &R,
     named: &Named,
     options: Options,
-) -> Result<Totals> {
+) -> Result<Totals>
+    ensures { IfOk result (λ t. CountsOf options.entry.separate (map (λ n. n.now) named.now.names.now) t.sheets t.accepted) }
+{
     let report = tell(rt, named, options)?;
     let line = report_line(rt.alloc(), named, &report)?;
     print_whole(rt, line.as_bytes())?;

@@ -1,6 +1,10 @@
 //! An edition's report as a page of HTML: one file, with nothing fetched and no script. What comes from a file goes through `Html::text`.
 #![tactic(auto)]
 
+ghost use Rattle.std.specs.Prelude.{map, IfOk};
+ghost use Rattle.edition_checks.specs.Counts.{CountsOf};
+
+use crate::Piece::{Count, Number, Raw, Text};
 use anyhow::{Context, Result};
 use edition_checks::status::Totals;
 use edition_html::put_text;
@@ -37,6 +41,15 @@ const STYLE: &str = "
   @media print { body { margin: 0; max-width: none; } a { color: inherit; text-decoration: none; } }
 ";
 
+/// A piece of a page: markup of this program's own; text, whatever it holds; a number, or none.
+#[derive(Clone, Copy)]
+enum Piece<'a> {
+    Raw(&'static str),
+    Text(&'a [u8]),
+    Number(usize),
+    Count(Option<usize>),
+}
+
 /// A page so far.
 #[derive(Drop)]
 struct Html {
@@ -44,43 +57,37 @@ struct Html {
 }
 
 impl Html {
-    // Markup, of this program's own.
-    fn raw(&mut self, markup: &'static str) -> Result<(), AllocError> {
-        self.out.put(markup.as_bytes())
-    }
-
-    // Text, whatever it holds.
-    fn text(&mut self, bytes: &[u8]) -> Result<(), AllocError> {
-        put_text(&mut self.out, from_utf8(bytes).is_ok(), bytes)
-    }
-
-    fn number(&mut self, n: usize) -> Result<(), AllocError> {
-        put_amount(&mut self.out, n)
-    }
-
-    // A cell with a number, or an empty one.
-    fn count(&mut self, n: Option<usize>) -> Result<(), AllocError> {
-        self.raw("<td class=\"count\">")?;
-        if let Some(n) = n {
-            self.number(n)?;
+    fn piece(&mut self, piece: Piece) -> Result<(), AllocError> {
+        match piece {
+            Raw(markup) => self.out.put(markup.as_bytes()),
+            Text(bytes) => put_text(&mut self.out, from_utf8(bytes).is_ok(), bytes),
+            Number(n) | Count(Some(n)) => put_amount(&mut self.out, n),
+            Count(None) => Ok(()),
         }
-        self.raw("</td>")
+    }
+
+    // Pieces, one after another.
+    fn put(&mut self, pieces: &[Piece]) -> Result<(), AllocError> {
+        for piece in pieces {
+            self.piece(*piece)?;
+        }
+        Ok(())
     }
 
     // A line of a sheet, with a part of it marked.
     fn line(&mut self, line: &[u8], marked: usize, end: usize) -> Result<(), AllocError> {
         let end = end.min(line.len());
         let marked = marked.min(end);
-        self.raw("<pre><code>")?;
-        self.text(&line[..marked])?;
-        self.raw("<mark>")?;
-        if marked == end {
-            self.raw(" ")?;
-        }
-        self.text(&line[marked..end])?;
-        self.raw("</mark>")?;
-        self.text(&line[end..])?;
-        self.raw("</code></pre>\n")
+        self.put(&[
+            Raw("<pre><code>"),
+            Text(&line[..marked]),
+            Raw("<mark>"),
+            Raw(if marked == end { " " } else { "" }),
+            Text(&line[marked..end]),
+            Raw("</mark>"),
+            Text(&line[end..]),
+            Raw("</code></pre>\n"),
+        ])
     }
 }
 
@@ -94,20 +101,50 @@ fn split_once<'a>(text: &'a [u8], sign: &[u8]) -> Option<(&'a [u8], &'a [u8])> {
     None
 }
 
+// What stands behind the first such sign; all, where there is none.
+fn behind<'a>(text: &'a [u8], sign: &[u8]) -> &'a [u8] {
+    match split_once(text, sign) {
+        Some((_, rest)) => rest,
+        None => text,
+    }
+}
+
+// What stands in front of the first such sign; all, where there is none.
+fn first_part<'a>(text: &'a [u8], sign: &[u8]) -> &'a [u8] {
+    match split_once(text, sign) {
+        Some((first, _)) => first,
+        None => text,
+    }
+}
+
 // What became of a sheet in words: what stands on the first line of its page behind the name, the place and ": ".
 fn verdict(sheet: &SheetTold) -> &[u8] {
-    let Some(first) = sheet.page.split(|b| *b == b'\n').next() else {
-        return &sheet.page;
-    };
-    let behind = &first[sheet.name.len().min(first.len())..];
-    match split_once(behind, b": ") {
-        Some((_, words)) => words,
-        None => behind,
-    }
+    let first = first_part(&sheet.page, b"\n");
+    behind(&first[sheet.name.len().min(first.len())..], b": ")
 }
 
 fn class(accepted: bool) -> &'static str {
     if accepted { "yes" } else { "no" }
+}
+
+// The rest of a cell that says whether a sheet is accepted.
+fn cell(accepted: bool) -> &'static str {
+    if accepted {
+        "\">accepted</td>"
+    } else {
+        "\">not accepted</td>"
+    }
+}
+
+// A binding's or a bound's name, and what it is.
+fn name_and_type(row: &[u8]) -> (&[u8], &[u8]) {
+    if let Some(parts) = split_once(row, b" ~ ") {
+        return parts;
+    }
+    match split_once(row, b": ") {
+        Some(parts) => parts,
+        None => (row, b"".as_slice()),
+    }
 }
 
 // A byte that goes on a character of UTF-8.
@@ -131,17 +168,21 @@ fn place_of(line: &[u8], before: usize) -> usize {
 
 impl Html {
     fn head(&mut self, totals: Totals) -> Result<(), AllocError> {
-        self.raw(PAGE)?;
-        self.number(totals.accepted)?;
-        self.raw(" of ")?;
-        self.number(totals.sheets)?;
-        self.raw(" accepted</title>\n<style>")?;
-        self.raw(STYLE)?;
-        self.raw("</style>\n</head>\n<body>\n<h1>An edition checked</h1>\n<p>")?;
+        self.put(&[
+            Raw(PAGE),
+            Number(totals.accepted),
+            Raw(" of "),
+            Number(totals.sheets),
+            Raw(" accepted</title>\n<style>"),
+            Raw(STYLE),
+            Raw("</style>\n</head>\n<body>\n<h1>An edition checked</h1>\n<p>"),
+        ])?;
         put_total(&mut self.out, totals.sheets, totals.accepted, totals.names)?;
-        self.raw("<meter min=\"0\" max=\"256\" aria-label=\"names in the table\" value=\"")?;
-        self.number(totals.names)?;
-        self.raw("\"></meter></p>\n")?;
+        self.put(&[
+            Raw("<meter min=\"0\" max=\"256\" aria-label=\"names in the table\" value=\""),
+            Number(totals.names),
+            Raw("\"></meter></p>\n"),
+        ])?;
         self.noted(totals.notes)
     }
 
@@ -150,64 +191,54 @@ impl Html {
         if notes == 0 {
             return Ok(());
         }
-        self.raw("<p><a href=\"#notes\">")?;
+        self.piece(Raw("<p><a href=\"#notes\">"))?;
         put_quantity(&mut self.out, notes, b" note")?;
-        self.raw("</a></p>\n")
+        self.piece(Raw("</a></p>\n"))
     }
 
     // The table of all sheets: a row each.
     fn overview(&mut self, sheets: &[SheetTold]) -> Result<(), AllocError> {
-        self.raw(
-            "<table>\n<caption>Sheets</caption>\n<thead><tr><th scope=\"col\">Sheet</th><th scope=\"col\">Verdict</th>",
-        )?;
-        self.raw(
-            "<th scope=\"col\" class=\"count\">Constraints</th><th scope=\"col\" class=\"count\">Rounds</th>",
-        )?;
-        self.raw("<th scope=\"col\" class=\"count\">New names</th></tr></thead>\n<tbody>\n")?;
+        self.put(&[
+            Raw("<table>\n<caption>Sheets</caption>\n<thead><tr><th scope=\"col\">Sheet</th><th scope=\"col\">Verdict</th>"),
+            Raw("<th scope=\"col\" class=\"count\">Constraints</th><th scope=\"col\" class=\"count\">Rounds</th>"),
+            Raw("<th scope=\"col\" class=\"count\">New names</th></tr></thead>\n<tbody>\n"),
+        ])?;
         for (k, sheet) in sheets.iter().enumerate() {
             self.row(k, sheet)?;
         }
-        self.raw("</tbody>\n</table>\n")
+        self.piece(Raw("</tbody>\n</table>\n"))
     }
 
-    // A sheet's row in it.
+    // A sheet's row in it, with what is counted of it: constraints, rounds, new names.
     fn row(&mut self, k: usize, sheet: &SheetTold) -> Result<(), AllocError> {
-        self.raw("<tr><th scope=\"row\"><a href=\"#sheet")?;
-        self.number(k)?;
-        self.raw("\">")?;
-        self.text(&sheet.name)?;
-        self.raw("</a></th><td class=\"")?;
-        self.raw(class(sheet.accepted))?;
-        self.raw(if sheet.accepted {
-            "\">accepted</td>"
-        } else {
-            "\">not accepted</td>"
-        })?;
-        self.counts(sheet)?;
-        self.raw("</tr>\n")
-    }
-
-    // What is counted of a sheet: constraints, rounds, new names.
-    fn counts(&mut self, sheet: &SheetTold) -> Result<(), AllocError> {
-        self.count(Some(sheet.constraints))?;
-        self.count(sheet.facts.rounds)?;
-        self.count(Some(sheet.new.len()))
+        self.put(&[
+            Raw("<tr><th scope=\"row\"><a href=\"#sheet"),
+            Number(k),
+            Raw("\">"),
+            Text(&sheet.name),
+            Raw("</a></th><td class=\""),
+            Raw(class(sheet.accepted)),
+            Raw(cell(sheet.accepted)),
+            Raw("<td class=\"count\">"),
+            Number(sheet.constraints),
+            Raw("</td><td class=\"count\">"),
+            Count(sheet.facts.rounds),
+            Raw("</td><td class=\"count\">"),
+            Number(sheet.new.len()),
+            Raw("</td></tr>\n"),
+        ])
     }
 
     // A row with a name and what it is.
     fn binding(&mut self, row: &[u8]) -> Result<(), AllocError> {
-        let (name, is) = match split_once(row, b" ~ ") {
-            Some(parts) => parts,
-            None => match split_once(row, b": ") {
-                Some(parts) => parts,
-                None => (row, b"".as_slice()),
-            },
-        };
-        self.raw("<tr><th scope=\"row\"><code>")?;
-        self.text(name)?;
-        self.raw("</code></th><td><code>")?;
-        self.text(is)?;
-        self.raw("</code></td></tr>\n")
+        let (name, is) = name_and_type(row);
+        self.put(&[
+            Raw("<tr><th scope=\"row\"><code>"),
+            Text(name),
+            Raw("</code></th><td><code>"),
+            Text(is),
+            Raw("</code></td></tr>\n"),
+        ])
     }
 
     // The bindings and bounds of an accepted sheet.
@@ -215,21 +246,21 @@ impl Html {
         if rows.is_empty() {
             return Ok(());
         }
-        self.raw(
-            "<table>\n<caption>Under these every constraint is true</caption>\n<thead><tr><th scope=\"col\">Name</th>",
-        )?;
-        self.raw("<th scope=\"col\">Type</th></tr></thead>\n<tbody>\n")?;
+        self.put(&[
+            Raw("<table>\n<caption>Under these every constraint is true</caption>\n<thead><tr><th scope=\"col\">Name</th>"),
+            Raw("<th scope=\"col\">Type</th></tr></thead>\n<tbody>\n"),
+        ])?;
         for row in rows {
             self.binding(row)?;
         }
-        self.raw("</tbody>\n</table>\n")
+        self.piece(Raw("</tbody>\n</table>\n"))
     }
 
     // The refused line, with the place marked; the line of a constraint that isn't true is marked as a whole.
     fn refused(&mut self, lines: &[&[u8]]) -> Result<(), AllocError> {
         match lines {
             [line, mark, ..] => {
-                let before = mark.iter().take_while(|b| **b == b' ').count();
+                let before = first_part(mark, b"^").len();
                 let at = place_of(line, before);
                 self.line(line, at, place_of(line, before.saturating_add(1)))
             }
@@ -240,13 +271,13 @@ impl Html {
 
     // The constraints that remain.
     fn remaining(&mut self, rows: &[&[u8]]) -> Result<(), AllocError> {
-        self.raw("<p>What remains; no rule applies to these lines:</p>\n<ul>\n")?;
+        self.piece(Raw(
+            "<p>What remains; no rule applies to these lines:</p>\n<ul>\n",
+        ))?;
         for row in rows {
-            self.raw("<li><code>")?;
-            self.text(row)?;
-            self.raw("</code></li>\n")?;
+            self.put(&[Raw("<li><code>"), Text(row), Raw("</code></li>\n")])?;
         }
-        self.raw("</ul>\n")
+        self.piece(Raw("</ul>\n"))
     }
 
     // The lines that conflict, each with its number.
@@ -254,27 +285,31 @@ impl Html {
         if lines.is_empty() {
             return Ok(());
         }
-        self.raw(
-            "<table>\n<caption>These lines conflict, and without any one of them the others don't</caption>\n<thead><tr>",
-        )?;
-        self.raw(
-            "<th scope=\"col\" class=\"count\">Line</th><th scope=\"col\">Constraint</th></tr></thead>\n<tbody>\n",
-        )?;
+        self.put(&[
+            Raw("<table>\n<caption>These lines conflict, and without any one of them the others don't</caption>\n<thead><tr>"),
+            Raw("<th scope=\"col\" class=\"count\">Line</th><th scope=\"col\">Constraint</th></tr></thead>\n<tbody>\n"),
+        ])?;
         for line in lines {
-            self.raw("<tr><th scope=\"row\" class=\"count\">")?;
-            self.number(line.number)?;
-            self.raw("</th><td><code>")?;
-            self.text(&line.text)?;
-            self.raw("</code></td></tr>\n")?;
+            self.conflicting(line)?;
         }
-        self.raw("</tbody>\n</table>\n")
+        self.piece(Raw("</tbody>\n</table>\n"))
+    }
+
+    fn conflicting(&mut self, line: &Line) -> Result<(), AllocError> {
+        self.put(&[
+            Raw("<tr><th scope=\"row\" class=\"count\">"),
+            Number(line.number),
+            Raw("</th><td><code>"),
+            Text(&line.text),
+            Raw("</code></td></tr>\n"),
+        ])
     }
 
     // That no lines are told, since a refusal was met while they were looked for.
     fn unknown(&mut self, why: Refusal) -> Result<(), AllocError> {
-        self.raw("<p>Looking for lines that conflict: ")?;
+        self.piece(Raw("<p>Looking for lines that conflict: "))?;
         put_refused(&mut self.out, why)?;
-        self.raw("</p>\n")
+        self.piece(Raw("</p>\n"))
     }
 
     // The names that a sheet has first.
@@ -282,36 +317,30 @@ impl Html {
         if new.is_empty() {
             return Ok(());
         }
-        self.raw("<p>New names:")?;
+        self.piece(Raw("<p>New names:"))?;
         for name in new {
-            self.raw(" <code>")?;
-            self.text(name)?;
-            self.raw("</code>")?;
+            self.put(&[Raw(" <code>"), Text(name), Raw("</code>")])?;
         }
-        self.raw("</p>\n")
+        self.piece(Raw("</p>\n"))
     }
 
     // What is told of a sheet.
     fn sheet(&mut self, alloc: Global, k: usize, sheet: &SheetTold) -> Result<(), AllocError> {
-        self.raw("<section id=\"sheet")?;
-        self.number(k)?;
-        self.raw("\">\n")?;
-        self.heading(sheet)?;
+        self.put(&[
+            Raw("<section id=\"sheet"),
+            Number(k),
+            Raw("\">\n<h2>"),
+            Text(&sheet.name),
+            Raw("</h2>\n<p class=\""),
+            Raw(class(sheet.accepted)),
+            Raw("\">"),
+            Text(verdict(sheet)),
+            Raw("</p>\n"),
+        ])?;
         self.place(sheet.facts)?;
         self.body(&lines_below(alloc, &sheet.page)?, sheet)?;
         self.new_names(&sheet.new)?;
-        self.raw("</section>\n")
-    }
-
-    // A sheet's name and verdict.
-    fn heading(&mut self, sheet: &SheetTold) -> Result<(), AllocError> {
-        self.raw("<h2>")?;
-        self.text(&sheet.name)?;
-        self.raw("</h2>\n<p class=\"")?;
-        self.raw(class(sheet.accepted))?;
-        self.raw("\">")?;
-        self.text(verdict(sheet))?;
-        self.raw("</p>\n")
+        self.piece(Raw("</section>\n"))
     }
 
     // The line that a verdict is of, and the column, where it is of one.
@@ -319,13 +348,13 @@ impl Html {
         let Some(line) = facts.line else {
             return Ok(());
         };
-        self.raw("<p>Line ")?;
-        self.number(line)?;
-        if let Some(column) = facts.column {
-            self.raw(", column ")?;
-            self.number(column)?;
-        }
-        self.raw(":</p>\n")
+        self.put(&[
+            Raw("<p>Line "),
+            Number(line),
+            Raw(if facts.column.is_some() { ", column " } else { "" }),
+            Count(facts.column),
+            Raw(":</p>\n"),
+        ])
     }
 
     // What the lines of a sheet's page below its first say.
@@ -346,17 +375,33 @@ impl Html {
         }
     }
 
+    // What is told of each sheet.
+    fn sheets(&mut self, alloc: Global, sheets: &[SheetTold]) -> Result<(), AllocError> {
+        for (k, sheet) in sheets.iter().enumerate() {
+            self.sheet(alloc, k, sheet)?;
+        }
+        Ok(())
+    }
+
+    // A whole report.
+    fn report(&mut self, alloc: Global, report: &Report) -> Result<(), AllocError> {
+        self.head(report.totals)?;
+        self.overview(&report.sheets)?;
+        self.sheets(alloc, &report.sheets)?;
+        self.notes(&report.notes)?;
+        self.piece(Raw("</body>\n</html>\n"))
+    }
+
     // What is noted: lines that begin with two blanks belong to the note before them.
     fn notes(&mut self, notes: &Notes) -> Result<(), AllocError> {
         if notes.count == 0 {
             return Ok(());
         }
-        self.raw("<section id=\"notes\">\n<h2>Notes</h2>\n<pre>")?;
-        for line in notes.lines().as_bytes().split(|b| *b == b'\n') {
-            self.text(line)?;
-            self.raw("\n")?;
+        self.piece(Raw("<section id=\"notes\">\n<h2>Notes</h2>\n<pre>"))?;
+        for line in notes.lines().lines() {
+            self.put(&[Text(line.as_bytes()), Raw("\n")])?;
         }
-        self.raw("</pre>\n</section>\n")
+        self.piece(Raw("\n</pre>\n</section>\n"))
     }
 }
 
@@ -365,13 +410,7 @@ fn page(alloc: Global, report: &Report) -> Result<Vec<u8>, AllocError> {
     let mut html = Html {
         out: Vec::new(alloc),
     };
-    html.head(report.totals)?;
-    html.overview(&report.sheets)?;
-    for (k, sheet) in report.sheets.iter().enumerate() {
-        html.sheet(alloc, k, sheet)?;
-    }
-    html.notes(&report.notes)?;
-    html.raw("</body>\n</html>\n")?;
+    html.report(alloc, report)?;
     Ok(html.out)
 }
 
@@ -389,12 +428,14 @@ fn last_line(alloc: Global, totals: Totals) -> Result<Vec<u8>, AllocError> {
 }
 
 /// Writes what is told of the files as a page into a file, prints the last line of the report, and says what is noted.
-pub fn check<R: Files + Input + Print + Eprint + AllocGlobal>(
+pub fn check<R: Files + Print + Eprint + AllocGlobal>(
     rt: &R,
     named: &Named,
     options: Options,
     path: &str,
-) -> Result<Totals> {
+) -> Result<Totals>
+    ensures { IfOk result (λ t. CountsOf options.entry.separate (map (λ n. n.now) named.now.names.now) t.sheets t.accepted) }
+{
     let report = tell(rt, named, options)?;
     write_page(rt, path, &report)?;
     print_whole(rt, &last_line(rt.alloc(), report.totals)?)?;

@@ -4,4 +4,5 @@
 pub mod files;
 pub mod listing;
 pub mod printing;
+mod telling;
 pub mod told;

@@ -9,7 +9,7 @@ use text_spell::put_name;
 use text_spell::sink::Sink;
 
 /// How many new names a sheet has.
-pub fn new_names(sheet: &Sheet) -> u32 {
+pub(crate) fn new_names(sheet: &Sheet) -> u32 {
     u32::try_from(sheet.content.names()).unwrap_or(u32::MAX)
 }
 

@@ -1,23 +1,19 @@
 // What is told of each sheet, for whoever shows it in another form than lines.
+ghost use Rattle.std.specs.Prelude.{◌≡◌, ◌++◌, map, IfOk, OnOk};
+ghost use Rattle.edition_checks.specs.Counts.{CountsOf};
+ghost use Rattle.edition_told.specs.Below.{linesBelow, rowOf};
+
 use crate::files::Named;
-use crate::listing::new_names;
+use crate::telling::Telling;
 use anyhow::Result;
-use edition::model::{Room, Sheet};
-use edition::telling::tell_sheet;
-use edition::why::conflict_in;
-use edition_checks::files::{Given, lend};
-use edition_checks::front::Front;
 use edition_checks::status::Totals;
-use edition_checks::tables::Tables;
 use edition_notes::notes::Notes;
 use edition_options::options::Options;
-use edition_report::lines::{constraint_line, line_in};
+use edition_report::lines::constraint_line;
 use edition_report::pages::Outcome;
-use names::tables::NameTable;
-use rules::{Refusal, Shown};
+use rules::Refusal;
 use std::alloc::{AllocError, Global};
 use std::rt::Files;
-use text_spell::put_name;
 
 /// What is told of an outcome beside its page: in one word, the refusal's number, line and column, and completed rounds.
 #[derive(Clone, Copy)]
@@ -69,7 +65,7 @@ impl Facts {
         }
     }
 
-    fn of(outcome: Outcome, text: &[u8]) -> Facts {
+    pub(crate) fn of(outcome: Outcome, text: &[u8]) -> Facts {
         match outcome {
             Outcome::Unseen(_) => Facts::told("unseen"),
             Outcome::Unread(stop) => Facts::told("unread")
@@ -109,163 +105,46 @@ pub struct SheetTold {
     pub why: Result<Vec<Line>, Refusal>,
 }
 
-impl SheetTold {
-    // What became of a sheet, and its page: its new names and the lines that conflict aren't looked for yet.
-    fn of(
-        alloc: Global,
-        sheet: &Sheet,
-        outcome: Outcome,
-        page: Vec<u8>,
-    ) -> Result<SheetTold, AllocError> {
-        Ok(SheetTold {
-            name: Vec::from_slice(alloc, sheet.name)?,
-            accepted: outcome.is_accepted(),
-            facts: Facts::of(outcome, sheet.text),
-            constraints: sheet.content.constraints(),
-            new: Vec::new(alloc),
-            page,
-            why: Ok(Vec::new(alloc)),
-        })
-    }
-}
-
 /// What is told of all sheets that are shown, what they come to, and what is noted.
 #[derive(Drop)]
 pub struct Report {
     pub sheets: Vec<SheetTold>,
     pub totals: Totals,
     pub notes: Notes,
-    room: Room,
-}
-
-impl Report {
-    fn new(alloc: Global) -> Report {
-        Report {
-            sheets: Vec::new(alloc),
-            totals: Totals::NONE,
-            notes: Notes::new(alloc),
-            room: Room::new(),
-        }
-    }
-
-    // Adds what is told of files over one name table.
-    fn add(&mut self, alloc: Global, given: &[Given], options: Options) -> Result<()> {
-        let files = lend(alloc, given)?;
-        let mut tables = Tables::new(alloc)?;
-        let sheets = tables.read(alloc, &files, &mut self.room)?;
-        let names = tables.names()?;
-        let mut first = 0u32;
-        for sheet in &sheets {
-            let accepted = self.add_sheet(names, sheet, first, options)?;
-            first = first.saturating_add(new_names(sheet));
-            self.totals = self.totals.and(accepted as usize, tables.count(), 0);
-        }
-        self.notes.add(names, &files)?;
-        self.totals.notes = self.notes.count;
-        Ok(())
-    }
-
-    // Adds what is told of a sheet, whose new names have the numbers from `first` on, if it is shown: is it accepted?
-    fn add_sheet(
-        &mut self,
-        names: NameTable,
-        sheet: &Sheet,
-        first: u32,
-        options: Options,
-    ) -> Result<bool, AllocError> {
-        let alloc = *self.sheets.allocator();
-        let mut page = Vec::new(alloc);
-        let outcome = tell_sheet(names, Shown::All, sheet, &mut self.room, &mut page)?;
-        if options.shown == Shown::All || !outcome.is_accepted() {
-            let mut told = SheetTold::of(alloc, sheet, outcome, page)?;
-            told.new = names_from(alloc, names, sheet, first)?;
-            if options.is_why_told() {
-                told.why = conflict_lines(alloc, names, sheet, outcome, &mut self.room)?;
-            }
-            self.sheets.push(told)?;
-        }
-        Ok(outcome.is_accepted())
-    }
-
-    // Adds what is told of files each over a name table of its own: each is let go before the next is read.
-    fn add_apart<R: Files + Input + AllocGlobal>(
-        &mut self,
-        rt: &R,
-        named: &Named,
-        options: Options,
-    ) -> Result<()> {
-        let alloc = rt.alloc();
-        let mut front = Front::new(alloc)?;
-        for name in named.names {
-            let given = [named.read(rt, name, &mut front)?];
-            self.add(alloc, &given, options)?;
-        }
-        Ok(())
-    }
-}
-
-// The lines of a sheet that conflict, or a refusal that was met on the way.
-fn conflict_lines(
-    alloc: Global,
-    names: NameTable,
-    sheet: &Sheet,
-    outcome: Outcome,
-    room: &mut Room,
-) -> Result<Result<Vec<Line>, Refusal>, AllocError> {
-    let many = match conflict_in(names, sheet, outcome, room) {
-        Ok(Some(many)) => many,
-        Ok(None) => 0,
-        Err(why) => return Ok(Err(why)),
-    };
-    let mut lines = Vec::new(alloc);
-    for place in room.res.iter().take(many) {
-        let number = constraint_line(sheet.text, *place as usize);
-        lines.push(Line {
-            number,
-            text: Vec::from_slice(alloc, line_in(sheet.text, number))?,
-        })?;
-    }
-    Ok(Ok(lines))
-}
-
-// The new names of a sheet as it may spell them, whose numbers begin with `first`.
-fn names_from(
-    alloc: Global,
-    names: NameTable,
-    sheet: &Sheet,
-    first: u32,
-) -> Result<Vec<Vec<u8>>, AllocError> {
-    let mut all = Vec::new(alloc);
-    for number in first..first.saturating_add(new_names(sheet)) {
-        let mut spelled = Vec::new(alloc);
-        put_name(&mut spelled, names.name(number))?;
-        all.push(spelled)?;
-    }
-    Ok(all)
 }
 
 /// The lines of a page behind the first that begin with two blanks, without these.
-pub fn lines_below(alloc: Global, page: &[u8]) -> Result<Vec<&[u8]>, AllocError> {
+pub fn lines_below(alloc: Global, page: &[u8]) -> Result<Vec<&[u8]>, AllocError>
+    ensures { IfOk result (λ v. map (λ l. l.now) v.items ≡ linesBelow page.now) }
+{
     let mut lines = Vec::new(alloc);
     for line in page.split(|b| *b == b'\n').skip(1) {
-        if let Some(line) = line.strip_prefix(b"  ") {
-            lines.push(line)?;
-        }
+        push_below(&mut lines, line)?;
     }
     Ok(lines)
 }
 
-/// Reads the files and tells of them: of each by itself, or of all together.
-pub fn tell<R: Files + Input + AllocGlobal>(
-    rt: &R,
-    named: &Named,
-    options: Options,
-) -> Result<Report> {
-    let mut report = Report::new(rt.alloc());
-    if options.separate {
-        report.add_apart(rt, named, options)?;
-    } else {
-        report.add(rt.alloc(), &named.read_all(rt)?, options)?;
+// Keeps a line that begins with two blanks, without these.
+fn push_below<'p>(lines: &mut Vec<&'p [u8]>, line: &'p [u8]) -> Result<(), AllocError>
+    ensures { OnOk result (map (λ l. l.now) lines.new.items ≡ map (λ l. l.now) lines.old.items ++ rowOf line.now) }
+{
+    if let Some(row) = line.strip_prefix(b"  ") {
+        lines.push(row)?;
     }
-    Ok(report)
+    Ok(())
+}
+
+/// Reads the files and tells of them: of each by itself, or of all together. What they come to are the counts of an edition, or of one for each file, whose
+/// files have these names.
+pub fn tell<R: Files + AllocGlobal>(rt: &R, named: &Named, options: Options) -> Result<Report>
+    ensures { IfOk result
+        (λ r. CountsOf options.entry.separate (map (λ n. n.now) named.now.names.now) r.totals.sheets r.totals.accepted) }
+{
+    let mut telling = Telling::new(rt.alloc(), options);
+    let totals = if options.separate {
+        telling.apart(rt, named)?
+    } else {
+        telling.together(rt, named)?
+    };
+    Ok(telling.report(totals))
 }
