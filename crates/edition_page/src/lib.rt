@@ -199,8 +199,12 @@ impl Html {
     // The table of all sheets: a row each.
     fn overview(&mut self, sheets: &[SheetTold]) -> Result<(), AllocError> {
         self.put(&[
-            Raw("<table>\n<caption>Sheets</caption>\n<thead><tr><th scope=\"col\">Sheet</th><th scope=\"col\">Verdict</th>"),
-            Raw("<th scope=\"col\" class=\"count\">Constraints</th><th scope=\"col\" class=\"count\">Rounds</th>"),
+            Raw(
+                "<table>\n<caption>Sheets</caption>\n<thead><tr><th scope=\"col\">Sheet</th><th scope=\"col\">Verdict</th>",
+            ),
+            Raw(
+                "<th scope=\"col\" class=\"count\">Constraints</th><th scope=\"col\" class=\"count\">Rounds</th>",
+            ),
             Raw("<th scope=\"col\" class=\"count\">New names</th></tr></thead>\n<tbody>\n"),
         ])?;
         for (k, sheet) in sheets.iter().enumerate() {
@@ -247,7 +251,9 @@ impl Html {
             return Ok(());
         }
         self.put(&[
-            Raw("<table>\n<caption>Under these every constraint is true</caption>\n<thead><tr><th scope=\"col\">Name</th>"),
+            Raw(
+                "<table>\n<caption>Under these every constraint is true</caption>\n<thead><tr><th scope=\"col\">Name</th>",
+            ),
             Raw("<th scope=\"col\">Type</th></tr></thead>\n<tbody>\n"),
         ])?;
         for row in rows {
@@ -271,9 +277,7 @@ impl Html {
 
     // The constraints that remain.
     fn remaining(&mut self, rows: &[&[u8]]) -> Result<(), AllocError> {
-        self.piece(Raw(
-            "<p>What remains; no rule applies to these lines:</p>\n<ul>\n",
-        ))?;
+        self.piece(Raw("<p>What remains; no rule applies to these lines:</p>\n<ul>\n"))?;
         for row in rows {
             self.put(&[Raw("<li><code>"), Text(row), Raw("</code></li>\n")])?;
         }
@@ -286,8 +290,12 @@ impl Html {
             return Ok(());
         }
         self.put(&[
-            Raw("<table>\n<caption>These lines conflict, and without any one of them the others don't</caption>\n<thead><tr>"),
-            Raw("<th scope=\"col\" class=\"count\">Line</th><th scope=\"col\">Constraint</th></tr></thead>\n<tbody>\n"),
+            Raw(
+                "<table>\n<caption>These lines conflict, and without any one of them the others don't</caption>\n<thead><tr>",
+            ),
+            Raw(
+                "<th scope=\"col\" class=\"count\">Line</th><th scope=\"col\">Constraint</th></tr></thead>\n<tbody>\n",
+            ),
         ])?;
         for line in lines {
             self.conflicting(line)?;
@@ -351,7 +359,11 @@ impl Html {
         self.put(&[
             Raw("<p>Line "),
             Number(line),
-            Raw(if facts.column.is_some() { ", column " } else { "" }),
+            Raw(if facts.column.is_some() {
+                ", column "
+            } else {
+                ""
+            }),
             Count(facts.column),
             Raw(":</p>\n"),
         ])
