@@ -2,9 +2,9 @@
 //! each, in order, and a last line for all. docs/EDITION.md says what the report tells, and what the status means.
 #![tactic(auto)]
 
-ghost use Rattle.std.specs.Prelude.{◌≡◌, true, map, IsErr, IfOk, MatchResult, OnErr};
+ghost use Rattle.std.specs.Prelude.{◌≡◌, ◌<◌, true, length, map, IsErr, IfOk, OnErr};
 ghost use Rattle.std.specs.String.{string_bytes};
-ghost use Rattle.edition_command.specs.Promise.{isHelp, asksAlone};
+ghost use Rattle.edition_command.specs.Promise.{isHelp, asksAlone, CountsBy, PassesBy, SheetsPass, Promised};
 
 mod arguments;
 mod overwriting;
@@ -13,11 +13,11 @@ use crate::arguments::{command, options_of};
 use crate::overwriting::{Streams, is_sheet, may_be_written};
 use anyhow::{Context, Result, anyhow, bail};
 use clap::error::ErrorKind;
-pub use edition_checks::status::Status;
-use edition_checks::status::{Totals, status_of};
 use edition_notes::shown::push_shown;
 use edition_options::options::{Form, Options};
 use edition_options::output::path_of;
+pub use edition_status::status::Status;
+use edition_status::status::{Totals, ended, status_of};
 use edition_text::{apart, together, verify};
 use edition_told::files::Named;
 pub use edition_words::Words;
@@ -28,7 +28,9 @@ fn check<R: Files + Input + Print + Eprint + AllocGlobal>(
     rt: &R,
     named: &Named,
     options: Options,
-) -> Result<Totals> {
+) -> Result<Totals>
+    ensures { IfOk result (λ t. CountsBy options.entry.form options.entry.separate (map (λ n. n.now) named.now.names.now) t.sheets t.accepted) }
+{
     match (options.form, options.separate) {
         (Form::Text, false) => together::check(rt, named, options),
         (Form::Text, true) => apart::check(rt, named, options),
@@ -176,7 +178,9 @@ fn check_named<R: Files + Input + Print + Eprint + AllocGlobal>(
     rt: &R,
     named: &Named,
     options: Options,
-) -> Result<Status> {
+) -> Result<Status>
+    ensures { IfOk result (λ s. s ≡ Status.Accepted → PassesBy options.entry.form options.entry.separate (map (λ n. n.now) named.now.names.now)) }
+{
     check_output(rt, options)?;
     let totals = check(rt, named, options)?;
     if options.strict && 0 < totals.notes {
@@ -191,7 +195,10 @@ fn check_names<R: Files + Input + Print + Eprint + AllocGlobal>(
     words: &Words,
     names: &[&str],
     options: Options,
-) -> Result<Status> {
+) -> Result<Status>
+    requires { 0 < length names.now }
+    ensures { IfOk result (λ s. s ≡ Status.Accepted → SheetsPass) }
+{
     if let Some(what) = wrong_with(rt, words, names, options)? {
         return Ok(mistake(rt, &what));
     }
@@ -205,7 +212,9 @@ fn check_names<R: Files + Input + Print + Eprint + AllocGlobal>(
 fn check_words<R: Files + Input + Print + Eprint + AllocGlobal>(
     rt: &R,
     words: &Words,
-) -> Result<Status> {
+) -> Result<Status>
+    ensures { IfOk result (λ s. s ≡ Status.Accepted → Promised (map string_bytes words.now.all.items)) }
+{
     let matches = match command(rt.alloc())?.try_get_matches_from(words.all.as_slice()) {
         Ok(matches) => matches,
         Err(error) => return answer(rt, words, &error),
@@ -226,28 +235,21 @@ fn checked<R: Files + Input + Print + Eprint + AllocGlobal>(
     rt: &R,
     words: Result<Words>,
 ) -> Result<Status>
-    ensures { OnErr words (IsErr result) }
+    ensures none { OnErr words (IsErr result) }
+    ensures passes { IfOk words (λ w. IfOk result (λ s. s ≡ Status.Accepted → Promised (map string_bytes w.all.items))) }
 {
     check_words(rt, &words?)
 }
 
-// There is no whole report: standard error says why.
-fn ended<R: Eprint>(rt: &R, outcome: Result<Status>) -> Status
-    ensures { MatchResult outcome (λ s. result ≡ s) (λ e. result ≡ Status.NoReport) }
-{
-    match outcome {
-        Ok(status) => status,
-        Err(error) => {
-            let _ = eprintln!(rt; "check_edition: {error:#}");
-            Status::NoReport
-        }
-    }
-}
-
 /// Runs the command with the words of a command line, the first of which is its own name: what it comes to. Where there is no whole report, standard
 /// error says why; without words there is none.
+///
+/// Accepted (the status 0) means that help or the version alone was asked for, or that sheets were named, and that every one is accepted and true by what its
+/// page prints (`Promised`). Which words are names is for `clap` to tell, and which bytes a file holds is the disk's: of these the contract says that
+/// there are names, and a content for each.
 pub fn run<R: Files + Input + Print + Eprint + AllocGlobal>(rt: &R, words: Result<Words>) -> Status
-    ensures { OnErr words (result ≡ Status.NoReport) }
+    ensures none { OnErr words (result ≡ Status.NoReport) }
+    ensures passes { IfOk words (λ w. result ≡ Status.Accepted → Promised (map string_bytes w.all.items)) }
 {
     ended(rt, checked(rt, words))
 }
