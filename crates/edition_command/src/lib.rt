@@ -2,9 +2,9 @@
 //! each, in order, and a last line for all. docs/EDITION.md says what the report tells, and what the status means.
 #![tactic(auto)]
 
-ghost use Rattle.std.specs.Prelude.{◌≡◌, ◌<◌, true, length, map, IsErr, IfOk, OnErr};
+ghost use Rattle.std.specs.Prelude.{◌≡◌, true, map, IsErr, IfOk, OnErr};
 ghost use Rattle.std.specs.String.{string_bytes};
-ghost use Rattle.edition_command.specs.Promise.{isHelp, asksAlone, CountsBy, PassesBy, SheetsPass, Promised};
+ghost use Rattle.edition_command.specs.Promise.{isHelp, asksAlone, CountsBy, PassesBy, Promised};
 
 mod arguments;
 mod overwriting;
@@ -196,8 +196,7 @@ fn check_names<R: Files + Input + Print + Eprint + AllocGlobal>(
     names: &[&str],
     options: Options,
 ) -> Result<Status>
-    requires { 0 < length names.now }
-    ensures { IfOk result (λ s. s ≡ Status.Accepted → SheetsPass) }
+    ensures { IfOk result (λ s. s ≡ Status.Accepted → PassesBy options.entry.form options.entry.separate (map (λ n. n.now) names.now)) }
 {
     if let Some(what) = wrong_with(rt, words, names, options)? {
         return Ok(mistake(rt, &what));
