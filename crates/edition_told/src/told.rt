@@ -37,50 +37,39 @@ impl Facts {
         }
     }
 
-    fn with_refusal(self, why: Refusal) -> Facts {
+    // A word and a refusal.
+    fn refused(finding: &'static str, why: Refusal) -> Facts {
         Facts {
             refusal: Some(why.number() as usize),
-            ..self
-        }
-    }
-
-    fn with_line(self, line: usize) -> Facts {
-        Facts {
-            line: Some(line),
-            ..self
-        }
-    }
-
-    fn with_column(self, column: usize) -> Facts {
-        Facts {
-            column: Some(column),
-            ..self
-        }
-    }
-
-    fn with_rounds(self, rounds: u32) -> Facts {
-        Facts {
-            rounds: Some(rounds as usize),
-            ..self
+            ..Facts::told(finding)
         }
     }
 
     pub(crate) fn of(outcome: Outcome, text: &[u8]) -> Facts {
         match outcome {
             Outcome::Unseen(_) => Facts::told("unseen"),
-            Outcome::Unread(stop) => Facts::told("unread")
-                .with_refusal(stop.why)
-                .with_line(stop.line)
-                .with_column(stop.column),
-            Outcome::Agrees { rounds, .. } => Facts::told("agrees").with_rounds(rounds),
-            Outcome::Denied(k) => Facts::told("denied").with_line(constraint_line(text, k)),
-            Outcome::Unjudged(why) => Facts::told("unjudged").with_refusal(why),
-            Outcome::Remains { rounds, .. } => Facts::told("remains")
-                .with_refusal(Refusal::Unsolved)
-                .with_rounds(rounds),
-            Outcome::Stops { why, rounds } => Facts::told("stops")
-                .with_refusal(why)
-                .with_rounds(rounds),
+            Outcome::Unread(stop) => Facts {
+                line: Some(stop.line),
+                column: Some(stop.column),
+                ..Facts::refused("unread", stop.why)
+            },
+            Outcome::Agrees { rounds, .. } => Facts {
+                rounds: Some(rounds as usize),
+                ..Facts::told("agrees")
+            },
+            Outcome::Denied(k) => Facts {
+                line: Some(constraint_line(text, k)),
+                ..Facts::told("denied")
+            },
+            Outcome::Unjudged(why) => Facts::refused("unjudged", why),
+            Outcome::Remains { rounds, .. } => Facts {
+                rounds: Some(rounds as usize),
+                ..Facts::refused("remains", Refusal::Unsolved)
+            },
+            Outcome::Stops { why, rounds } => Facts {
+                rounds: Some(rounds as usize),
+                ..Facts::refused("stops", why)
+            },
         }
     }
 }
