@@ -25,7 +25,8 @@ abbrev pub PassesBy : Form → Bool → List Bytes → Type 0
 PassesBy (Verified path) separate names = PassedCertified names
 PassesBy form separate names = Passed separate names
 
--- sheets are named, at least one, and every one passes
+-- sheets are named, at least one, and every one passes: which words are names is for clap to tell, and what a file holds for the disk, so that these are
+-- not named here
 pub record SheetsPass : Type 0 where
   pub form : Form
   pub separate : Bool

@@ -243,9 +243,10 @@ fn checked<R: Files + Input + Print + Eprint + AllocGlobal>(
 /// Runs the command with the words of a command line, the first of which is its own name: what it comes to. Where there is no whole report, standard
 /// error says why; without words there is none.
 ///
-/// Accepted (the status 0) means that help or the version alone was asked for, or that sheets were named, and that every one is accepted and true by what its
-/// page prints (`Promised`). Which words are names is for `clap` to tell, and which bytes a file holds is the disk's: of these the contract says that
-/// there are names, and a content for each.
+/// Accepted (the status 0) means that help or the version alone was asked for, or that sheets were named, at least one, and that every one is accepted and
+/// true by what its page prints, or by its certificate (`Promised`). Which words are names is for `clap` to tell, and which bytes a file holds is the disk's:
+/// no contract can name these, so it says that there are such names, and such a content for each. The functions that count are promised of the files as
+/// they were had (`edition_checks`), and of all that were named.
 pub fn run<R: Files + Input + Print + Eprint + AllocGlobal>(rt: &R, words: Result<Words>) -> Status
     ensures none { OnErr words (result ≡ Status.NoReport) }
     ensures passes { IfOk words (λ w. result ≡ Status.Accepted → Promised (map string_bytes w.all.items)) }
