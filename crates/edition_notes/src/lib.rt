@@ -4,8 +4,9 @@
 
 mod bound;
 mod files;
+mod found;
 pub mod notes;
 mod places;
 pub mod shown;
-mod structs;
 mod survey;
+mod telling;

@@ -1,4 +1,5 @@
 // Where the names of sheets stand, and under which mark.
+use edition_structs::{Place, begins_constraint};
 use records::seen::view_at;
 use records::{Atom, Open, View};
 use std::alloc::{AllocError, Global};
@@ -11,13 +12,6 @@ pub(crate) enum Mark {
     Base,
     Struct,
     Field,
-}
-
-/// A line of a sheet, by their numbers.
-#[derive(Clone, Copy)]
-pub(crate) struct Place {
-    pub sheet: usize,
-    pub line: usize,
 }
 
 /// Where a name stands under a mark, first in a sheet.
@@ -51,21 +45,14 @@ impl Places {
         }
     }
 
-    /// Adds those of a sheet, of which the lines that hold its constraints are given.
-    pub(crate) fn add_sheet(
-        &mut self,
-        sheet: usize,
-        lines: &[usize],
-        records: &[u32],
-    ) -> Result<(), AllocError> {
-        let mut constraints = 0usize;
+    /// Adds those of a sheet's records.
+    pub(crate) fn add_sheet(&mut self, sheet: usize, records: &[u32]) -> Result<(), AllocError> {
+        let mut constraint = 0usize;
         for at in 0..records.len() / 4 {
             let view = view_at(records, at);
-            if begins_constraint(view) {
-                constraints = constraints.saturating_add(1);
-            }
+            constraint = constraint.saturating_add(begins_constraint(view));
             if let Some((name, mark)) = marked(view) {
-                let place = place_of(sheet, lines, constraints);
+                let place = Place { sheet, constraint };
                 self.add(name, Standing { mark, place })?;
             }
         }
@@ -85,23 +72,6 @@ impl Places {
         standings.push(standing)?;
         Ok(())
     }
-}
-
-/// Does a record begin a constraint?
-pub(crate) fn begins_constraint(view: View) -> bool {
-    matches!(
-        view,
-        View::Equal | View::IsDim | View::IsScalar | View::HasField(_)
-    )
-}
-
-/// The place of the last of the first so many constraints of a sheet.
-pub(crate) fn place_of(sheet: usize, lines: &[usize], constraints: usize) -> Place {
-    let line = match lines.get(constraints.saturating_sub(1)) {
-        Some(line) => *line,
-        None => 0,
-    };
-    Place { sheet, line }
 }
 
 // The name that a record has, and what it stands as.

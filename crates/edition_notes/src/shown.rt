@@ -1,4 +1,9 @@
 // Names as they are shown.
+ghost use Rattle.std.specs.Prelude.{◌≡◌, ◌++◌, OnOk, chars};
+ghost use Rattle.std.specs.List.{flat_map};
+ghost use Rattle.std.specs.String.{string_bytes};
+ghost use Rattle.edition_notes.specs.Shown.{shownChar, shownName};
+
 use edition_look_alikes::has_unseen;
 use std::alloc::AllocError;
 use std::fmt;
@@ -6,13 +11,30 @@ use std::fmt::Write;
 use std::str::from_utf8;
 use text_spell::is_plain;
 
-/// Adds a file's name, without control characters.
-pub fn push_shown(out: &mut String, name: &[u8]) -> Result<(), AllocError> {
-    let alloc = *out.allocator();
-    for c in String::from_utf8_lossy(alloc, name)?.chars() {
-        out.push(if c.is_control() { '?' } else { c })?;
+// Adds a character, "?" for a control character.
+fn push_char(out: &mut String, c: char) -> Result<(), AllocError>
+    ensures { OnOk result (string_bytes out.new ≡ string_bytes out.old ++ shownChar c) }
+{
+    out.push(if c.is_control() { '?' } else { c })
+}
+
+// Adds a text's characters.
+fn push_chars(out: &mut String, text: &str) -> Result<(), AllocError>
+    ensures { OnOk result (string_bytes out.new ≡ string_bytes out.old ++ flat_map shownChar (chars text.now)) }
+{
+    for c in text.chars() {
+        push_char(out, c)?;
     }
     Ok(())
+}
+
+/// Adds a file's name as it is shown: U+FFFD where its bytes are no characters, "?" for a control character.
+pub fn push_shown(out: &mut String, name: &[u8]) -> Result<(), AllocError>
+    ensures { OnOk result (string_bytes out.new ≡ string_bytes out.old ++ shownName name.now) }
+{
+    let alloc = *out.allocator();
+    let text = String::from_utf8_lossy(alloc, name)?;
+    push_chars(out, text.as_str())
 }
 
 /// Adds a name in ASCII: each other byte as "\" and two hex digits, as it may be typed.
