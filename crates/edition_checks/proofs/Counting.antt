@@ -39,9 +39,6 @@ sum-behind : (xs : List Had) (f : Had) → sum_of (λ g. acceptedOf (alone g)) (
 sum-behind [] f = omega arith
 sum-behind (x ∷ xs) f = let e = sum-behind xs f in omega (arith, e)
 
-pub apart-none : CountsApart [] 0 0
-apart-none = record { files = []; named = refl; all = refl; counted = refl }
-
 module _ {names : List Bytes} {sheets accepted : ℕ} (c : CountsApart names sheets accepted) where
   pub apart-few : accepted ≤ sheets
   apart-few = rw (c.all, c.counted) (few (λ (f : Had). acceptedOf (alone f)) one-accepted c.files)

@@ -5,7 +5,7 @@ use Rattle.rules.specs.Base.{oneIf, sum_of}
 use Rattle.rules.specs.Names.{Bytes, Table, table_of}
 use Rattle.rules.specs.TextReading.{Sheet, sheet, refusedIn, sheetRead}
 use Rattle.rules.specs.TextWriting.{namesIn}
-use Rattle.rules.specs.Reports.{Edition, Page, acceptedIn, constraintsIn, editionGiven, findingOf, isAccepted, namesAfter, page_of, pageText, readOn}
+use Rattle.rules.specs.Reports.{Page, acceptedIn, constraintsIn, editionGiven, findingOf, isAccepted, namesAfter, page_of, pageText, readOn}
 use Rattle.rules.specs.declared.Unseen.{Unseen}
 use Rattle.laws.specs.Lists.{Every}
 use Rattle.laws.proofs.Numbers.{one_at_most}
