@@ -1,5 +1,6 @@
 -- What is told of structs is so, and all of it.
-use Rattle.std.specs.Prelude.{◌≡◌, refl, ℕ, Bool, true, false, cond, ◌&&◌, ◌||◌, ◌==◌, List, [], ◌∷◌, ◌++◌, Option, Some, None, ◌⊎◌, ◌+◌, ◌<◌, ◌≤◌, length, take, drop, get_or}
+use Rattle.std.specs.Prelude.{◌≡◌, refl, ℕ, Bool, true, false, cond, ◌&&◌, ◌||◌, ◌==◌, List, []}
+use Rattle.std.specs.Prelude.{◌∷◌, ◌++◌, Option, Some, None, ◌⊎◌, ◌+◌, ◌<◌, ◌≤◌, length, take, drop, get_or}
 use Rattle.std.proofs.Common.{drop-cons, drop_of_length-le, subst}
 use Rattle.std.proofs.Math.Numerals.{add-one}
 use Rattle.std.proofs.Common.{sym, ◌∙◌, ap, append_assoc, append-nil, inl, inr, arith}

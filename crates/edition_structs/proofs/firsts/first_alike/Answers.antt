@@ -14,4 +14,5 @@ pub returns : goal.returns
 returns c =
     let free : None ≡ get cmpKey c.args.firsts.now (c.args.written.name, c.args.written.arguments)
     = sym c.in_default.is ∙ c.copied.ensures ∙ c.get.ensures.value in
-    λ ss h. (first_is c.args.firsts.now c.args.written ss h _ free, firsts_more c.args.firsts.now c.args.written ss h c.insert.new.self free c.in_ok-insert.ensures.updates.0)
+    let more = c.in_ok-insert.ensures.updates.0 in
+    λ ss h. (first_is c.args.firsts.now c.args.written ss h _ free, firsts_more c.args.firsts.now c.args.written ss h c.insert.new.self free more)
