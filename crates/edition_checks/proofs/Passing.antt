@@ -66,12 +66,8 @@ module _ (t : Table) where
 edition-passes : (fs : List Had) → length (editionFrom fs).pages ≤ acceptedOf (editionFrom fs) → AllPass (editionFrom fs)
 edition-passes fs n = let e = editionFrom fs in all-pass (table_of e.pool e.table) e.pages (edition-true (replicate 8192 0) (replicate 257 0) fs) n
 
-together-pass : (names : List Bytes) (sheets accepted : ℕ) → CountsTogether names sheets accepted → sheets ≤ accepted → Passed false names
-together-pass names sheets accepted c n = record {
-  files = c.files;
-  named = c.named;
-  pass = edition-passes c.files (rw (c.counted.sheet-count, c.counted.accepted-count) at n);
-}
+together-pass : (files : List Had) (sheets accepted : ℕ) → CountsTogether files sheets accepted → sheets ≤ accepted → Passed false files
+together-pass files sheets accepted c n = edition-passes files (rw (c.sheet-count, c.accepted-count) at n)
 
 -- ══ A sheet as an edition by itself ══
 
@@ -104,18 +100,15 @@ each-passes : (fs : List Had) → Every (λ f. 1 ≤ acceptedOf (alone f) → Al
 each-passes [] = tt
 each-passes (f ∷ fs) = (alone-passes f, each-passes fs)
 
-apart-pass : (names : List Bytes) (sheets accepted : ℕ) → CountsApart names sheets accepted → sheets ≤ accepted → Passed true names
-apart-pass names sheets accepted c n = record {
-  files = c.files;
-  named = c.named;
-  pass = each-counts (λ (f : Had). acceptedOf (alone f)) one-accepted (λ f. AllPass (alone f)) c.files (each-passes c.files) (rw (c.all, c.counted) at n);
-}
+apart-pass : (files : List Had) (sheets accepted : ℕ) → CountsApart files sheets accepted → sheets ≤ accepted → Passed true files
+apart-pass files sheets accepted c n =
+    each-counts (λ (f : Had). acceptedOf (alone f)) one-accepted (λ f. AllPass (alone f)) files (each-passes files) (rw (c.all, c.counted) at n)
 
 -- ══ What the counts are worth ══
 
 pub counts-pass : CountsThatAgreePass
-counts-pass false names sheets accepted c n = together-pass names sheets accepted c n
-counts-pass true names sheets accepted c n = apart-pass names sheets accepted c n
+counts-pass false files sheets accepted c n = together-pass files sheets accepted c n
+counts-pass true files sheets accepted c n = apart-pass files sheets accepted c n
 
 pub certified-pass : CertifiedThatAgreePass
-certified-pass names sheets accepted c n = record { entries = c.entries; files = c.files; named = c.named; pass = c.truth n }
+certified-pass files sheets accepted c n = record { entries = c.entries; pass = c.truth n }

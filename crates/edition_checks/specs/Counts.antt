@@ -1,7 +1,7 @@
 -- What the counts of a report are counts of, and what it means that every sheet passes.
-use Rattle.std.specs.Prelude.{◌≡◌, ◌≤◌, Bool, true, false, ℕ, List, [], ◌∷◌, map, length, replicate}
+use Rattle.std.specs.Prelude.{◌≡◌, ◌≤◌, Bool, true, false, ℕ, List, [], ◌∷◌, length, replicate}
 use Rattle.rules.specs.Base.{sum_of}
-use Rattle.rules.specs.Names.{Bytes, table_of}
+use Rattle.rules.specs.Names.{table_of}
 use Rattle.rules.specs.Reports.{Edition, acceptedIn, editionGiven}
 use Rattle.laws.specs.Lists.{Every}
 use Rattle.edition.specs.Report.{Counted}
@@ -22,28 +22,22 @@ acceptedOf e = acceptedIn (table_of e.pool e.table) e.pages
 
 -- ══ What is counted ══
 
--- of files with these names, read as one edition: its sheets, and those that are accepted
-pub record CountsTogether (names : List Bytes) (sheets accepted : ℕ) : Type 0 where
-  pub files : List Had
-  pub named : map (λ f. f.0) files ≡ names
-  pub counted : Counted sheets accepted (editionFrom files)
+-- of files that are read as one edition: its sheets, and those that are accepted
+abbrev pub CountsTogether : List Had → ℕ → ℕ → Type 0
+CountsTogether files sheets accepted = Counted sheets accepted (editionFrom files)
 
--- each as an edition by itself
-pub record CountsApart (names : List Bytes) (sheets accepted : ℕ) : Type 0 where
-  pub files : List Had
-  pub named : map (λ f. f.0) files ≡ names
+-- of files each of which is an edition by itself
+pub record CountsApart (files : List Had) (sheets accepted : ℕ) : Type 0 where
   pub all : sheets ≡ length files
   pub counted : accepted ≡ sum_of (λ f. acceptedOf (alone f)) files
 
-abbrev pub CountsOf : Bool → List Bytes → ℕ → ℕ → Type 0
-CountsOf false names sheets accepted = CountsTogether names sheets accepted
-CountsOf true names sheets accepted = CountsApart names sheets accepted
+abbrev pub CountsOf : Bool → List Had → ℕ → ℕ → Type 0
+CountsOf false files sheets accepted = CountsTogether files sheets accepted
+CountsOf true files sheets accepted = CountsApart files sheets accepted
 
--- by what a certificate keeps: where as many are counted as there are, each is true by it
-pub record CountsCertified (names : List Bytes) (sheets accepted : ℕ) : Type 0 where
+-- by what a certificate keeps: where as many are counted as there are, each file is true by it
+pub record CountsCertified (files : List Had) (sheets accepted : ℕ) : Type 0 where
   pub entries : List Entry
-  pub files : List Had
-  pub named : map (λ f. f.0) files ≡ names
   pub all : sheets ≡ sheetsIn entries files
   pub counted : accepted ≡ verifiedIn entries files
   pub truth : sheets ≤ accepted → Every (TrueBy entries) files
@@ -54,30 +48,23 @@ pub record CountsCertified (names : List Bytes) (sheets accepted : ℕ) : Type 0
 abbrev pub AllPass : Edition → Type 0
 AllPass e = Every (λ p. TrueOn (table_of e.pool e.table) p p.content) e.pages
 
-abbrev pub PassBy : Bool → List Had → Type 0
-PassBy false files = AllPass (editionFrom files)
-PassBy true files = Every (λ f. AllPass (alone f)) files
+-- so is each sheet of files, as one edition or each by itself
+abbrev pub Passed : Bool → List Had → Type 0
+Passed false files = AllPass (editionFrom files)
+Passed true files = Every (λ f. AllPass (alone f)) files
 
--- whatever was had of the files with these names, each sheet passes
-pub record Passed (separate : Bool) (names : List Bytes) : Type 0 where
-  pub files : List Had
-  pub named : map (λ f. f.0) files ≡ names
-  pub pass : PassBy separate files
-
--- each file is one that the certificate keeps, and true
-pub record PassedCertified (names : List Bytes) : Type 0 where
+-- each file is one that a certificate keeps, and true by it
+pub record PassedCertified (files : List Had) : Type 0 where
   pub entries : List Entry
-  pub files : List Had
-  pub named : map (λ f. f.0) files ≡ names
   pub pass : Every (TrueBy entries) files
 
 -- ══ What the counts are worth ══
 
 -- where as many sheets are accepted as there are, every sheet passes
 abbrev pub CountsThatAgreePass : Type 0
-CountsThatAgreePass = (separate : Bool) (names : List Bytes) (sheets accepted : ℕ) → CountsOf separate names sheets accepted → sheets ≤ accepted
-    → Passed separate names
+CountsThatAgreePass = (separate : Bool) (files : List Had) (sheets accepted : ℕ) → CountsOf separate files sheets accepted → sheets ≤ accepted
+    → Passed separate files
 
 -- and by a certificate
 abbrev pub CertifiedThatAgreePass : Type 0
-CertifiedThatAgreePass = (names : List Bytes) (sheets accepted : ℕ) → CountsCertified names sheets accepted → sheets ≤ accepted → PassedCertified names
+CertifiedThatAgreePass = (files : List Had) (sheets accepted : ℕ) → CountsCertified files sheets accepted → sheets ≤ accepted → PassedCertified files

@@ -7,7 +7,7 @@ pub fn counts_that_agree_pass()
     ensures { CountsThatAgreePass }
 {}
 
-/// Where as many sheets are verified as there are, each file that was named is one that the certificate keeps, and true by it (`certified-pass`).
+/// Where as many sheets are verified as there are, each file is one that the certificate keeps, and true by it (`certified-pass`).
 pub fn certified_counts_that_agree_pass()
     ensures { CertifiedThatAgreePass }
 {}

@@ -1,8 +1,9 @@
--- What it means that the command ends with the status 0, of a command line.
-use Rattle.std.specs.Prelude.{◌≡◌, ◌<◌, ◌⊎◌, Bool, true, false, ℕ, List, [], ◌∷◌, length, codes}
+-- What it means that files come to the status 0; and which words ask for help or the version alone, which come to it too.
+use Rattle.std.specs.Prelude.{Bool, false, ℕ, List, [], ◌∷◌, codes}
 use Rattle.std.specs.List.{list_any}
 use Rattle.std.specs.Str.{bytes_eq}
 use Rattle.rules.specs.Names.{Bytes}
+use Rattle.edition_verify.specs.Verifying.{Had}
 use Rattle.edition_checks.specs.Counts.{CountsOf, CountsCertified, Passed, PassedCertified}
 use Rattle.edition_options.specs.declared.options.Form.{Form}
 use Rattle.edition_options.specs.declared.options.Form.TheVariants.{Verified}
@@ -15,25 +16,12 @@ abbrev pub asksAlone : List Bytes → Bool
 asksAlone (program ∷ word ∷ []) = isHelp word
 asksAlone words = false
 
--- what is counted of the files with these names: by a certificate, or else of one edition, or of each as an edition by itself
-abbrev pub CountsBy : Form → Bool → List Bytes → ℕ → ℕ → Type 0
-CountsBy (Verified path) separate names sheets accepted = CountsCertified names sheets accepted
-CountsBy form separate names sheets accepted = CountsOf separate names sheets accepted
+-- what is counted of files: by a certificate, or else of one edition, or of each as an edition by itself
+abbrev pub CountsBy : Form → Bool → List Had → ℕ → ℕ → Type 0
+CountsBy (Verified path) separate files sheets accepted = CountsCertified files sheets accepted
+CountsBy form separate files sheets accepted = CountsOf separate files sheets accepted
 
--- every sheet of them passes
-abbrev pub PassesBy : Form → Bool → List Bytes → Type 0
-PassesBy (Verified path) separate names = PassedCertified names
-PassesBy form separate names = Passed separate names
-
--- sheets are named, at least one, and every one passes: which words are names is for clap to tell, and what a file holds for the disk, so that these are
--- not named here
-pub record SheetsPass : Type 0 where
-  pub form : Form
-  pub separate : Bool
-  pub names : List Bytes
-  pub some : 0 < length names
-  pub pass : PassesBy form separate names
-
--- the status 0 means that help or the version alone was asked for, or that sheets pass
-abbrev pub Promised : List Bytes → Type 0
-Promised words = (asksAlone words ≡ true) ⊎ SheetsPass
+-- every sheet of them passes: this is what the status 0 means
+abbrev pub PassesBy : Form → Bool → List Had → Type 0
+PassesBy (Verified path) separate files = PassedCertified files
+PassesBy form separate files = Passed separate files

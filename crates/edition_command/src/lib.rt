@@ -4,7 +4,8 @@
 
 ghost use Rattle.std.specs.Prelude.{◌≡◌, true, map, IsErr, IfOk, OnErr};
 ghost use Rattle.std.specs.String.{string_bytes};
-ghost use Rattle.edition_command.specs.Promise.{isHelp, asksAlone, CountsBy, PassesBy, Promised};
+ghost use Rattle.edition_checks.specs.Given.{given_of};
+ghost use Rattle.edition_command.specs.Promise.{isHelp, asksAlone, CountsBy, PassesBy};
 
 mod arguments;
 mod overwriting;
@@ -13,6 +14,7 @@ use crate::arguments::{command, options_of};
 use crate::overwriting::{Streams, is_sheet, may_be_written};
 use anyhow::{Context, Result, anyhow, bail};
 use clap::error::ErrorKind;
+use edition_checks::files::Given;
 use edition_notes::shown::push_shown;
 use edition_options::options::{Form, Options};
 use edition_options::output::path_of;
@@ -23,21 +25,41 @@ use edition_told::files::Named;
 pub use edition_words::Words;
 use std::rt::Files;
 
-// Checks the sheets of a command line, in the form that was asked for.
-fn check<R: Files + Input + Print + Eprint + AllocGlobal>(
+// Checks files in the form that was asked for.
+fn check<R: Files + Print + Eprint + AllocGlobal>(
     rt: &R,
     named: &Named,
+    given: &[Given],
     options: Options,
 ) -> Result<Totals>
-    ensures { IfOk result (λ t. CountsBy options.entry.form options.entry.separate (map (λ n. n.now) named.now.names.now) t.sheets t.accepted) }
+    ensures { IfOk result (λ t. CountsBy options.entry.form options.entry.separate (given_of given.now) t.sheets t.accepted) }
 {
     match (options.form, options.separate) {
-        (Form::Text, false) => together::check(rt, named, options),
-        (Form::Text, true) => apart::check(rt, named, options),
-        (Form::Json, _) => edition_json::check(rt, named, options),
-        (Form::Html(path), _) => edition_page::check(rt, named, options, path),
-        (Form::Verified(path), _) => verify::check(rt, path, named),
+        (Form::Text, false) => together::check(rt, given, options),
+        (Form::Text, true) => apart::check(rt, given, options),
+        (Form::Json, _) => edition_json::check(rt, named, given, options),
+        (Form::Html(path), _) => edition_page::check(rt, given, options, path),
+        (Form::Verified(path), _) => verify::check(rt, path, given),
     }
+}
+
+/// Checks files as they were had, in the form that was asked for, and says what they come to. `named` knows whose names aren't shown as they were given.
+///
+/// Accepted (the exit status 0) means that every sheet of the edition that the files are, or of each as an edition by itself, is accepted, and its constraints
+/// are true by what its page prints; or, where they are judged by a certificate, that each file is one that it keeps, and true by it (`PassesBy`).
+pub fn check_given<R: Files + Print + Eprint + AllocGlobal>(
+    rt: &R,
+    named: &Named,
+    given: &[Given],
+    options: Options,
+) -> Result<Status>
+    ensures { IfOk result (λ s. s ≡ Status.Accepted → PassesBy options.entry.form options.entry.separate (given_of given.now)) }
+{
+    let totals = check(rt, named, given, options)?;
+    if options.strict && 0 < totals.notes {
+        let _ = eprintln!(rt; "check_edition: --strict, and there are notes: the status is 1");
+    }
+    Ok(status_of(totals, options.strict))
 }
 
 // Does a word ask for help or for the version?
@@ -173,20 +195,14 @@ fn check_output<R: Files + AllocGlobal>(rt: &R, options: Options) -> Result<()> 
     bail!("{path}{}: not overwritten", output.kind())
 }
 
-// Checks the sheets of a command line, once it is seen that what is written overwrites nothing else.
-fn check_named<R: Files + Input + Print + Eprint + AllocGlobal>(
+// Reads the sheets of a command line and checks them, once it is seen that what is written overwrites nothing else.
+fn check_named<R: Files + Print + Eprint + AllocGlobal>(
     rt: &R,
     named: &Named,
     options: Options,
-) -> Result<Status>
-    ensures { IfOk result (λ s. s ≡ Status.Accepted → PassesBy options.entry.form options.entry.separate (map (λ n. n.now) named.now.names.now)) }
-{
+) -> Result<Status> {
     check_output(rt, options)?;
-    let totals = check(rt, named, options)?;
-    if options.strict && 0 < totals.notes {
-        let _ = eprintln!(rt; "check_edition: --strict, and there are notes: the status is 1");
-    }
-    Ok(status_of(totals, options.strict))
+    check_given(rt, named, &named.read_all(rt)?, options)
 }
 
 // Checks the sheets with these names.
@@ -195,9 +211,7 @@ fn check_names<R: Files + Input + Print + Eprint + AllocGlobal>(
     words: &Words,
     names: &[&str],
     options: Options,
-) -> Result<Status>
-    ensures { IfOk result (λ s. s ≡ Status.Accepted → PassesBy options.entry.form options.entry.separate (map (λ n. n.now) names.now)) }
-{
+) -> Result<Status> {
     if let Some(what) = wrong_with(rt, words, names, options)? {
         return Ok(mistake(rt, &what));
     }
@@ -211,9 +225,7 @@ fn check_names<R: Files + Input + Print + Eprint + AllocGlobal>(
 fn check_words<R: Files + Input + Print + Eprint + AllocGlobal>(
     rt: &R,
     words: &Words,
-) -> Result<Status>
-    ensures { IfOk result (λ s. s ≡ Status.Accepted → Promised (map string_bytes words.now.all.items)) }
-{
+) -> Result<Status> {
     let matches = match command(rt.alloc())?.try_get_matches_from(words.all.as_slice()) {
         Ok(matches) => matches,
         Err(error) => return answer(rt, words, &error),
@@ -234,22 +246,16 @@ fn checked<R: Files + Input + Print + Eprint + AllocGlobal>(
     rt: &R,
     words: Result<Words>,
 ) -> Result<Status>
-    ensures none { OnErr words (IsErr result) }
-    ensures passes { IfOk words (λ w. IfOk result (λ s. s ≡ Status.Accepted → Promised (map string_bytes w.all.items))) }
+    ensures { OnErr words (IsErr result) }
 {
     check_words(rt, &words?)
 }
 
 /// Runs the command with the words of a command line, the first of which is its own name: what it comes to. Where there is no whole report, standard
-/// error says why; without words there is none.
-///
-/// Accepted (the status 0) means that help or the version alone was asked for, or that sheets were named, at least one, and that every one is accepted and
-/// true by what its page prints, or by its certificate (`Promised`). Which words are names is for `clap` to tell, and which bytes a file holds is the disk's:
-/// no contract can name these, so it says that there are such names, and such a content for each. The functions that count are promised of the files as
-/// they were had (`edition_checks`), and of all that were named.
+/// error says why; without words there is none. Accepted is what `check_given` answers of the files that were named, as they were had, or what help and the
+/// version come to where they are asked for alone. Which words are names is for `clap` to tell, and which bytes a file holds is the disk's.
 pub fn run<R: Files + Input + Print + Eprint + AllocGlobal>(rt: &R, words: Result<Words>) -> Status
-    ensures none { OnErr words (result ≡ Status.NoReport) }
-    ensures passes { IfOk words (λ w. result ≡ Status.Accepted → Promised (map string_bytes w.all.items)) }
+    ensures { OnErr words (result ≡ Status.NoReport) }
 {
     ended(rt, checked(rt, words))
 }

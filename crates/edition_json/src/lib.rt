@@ -1,10 +1,12 @@
 //! An edition's report as one value of JSON.
 #![tactic(auto)]
 
-ghost use Rattle.std.specs.Prelude.{map, IfOk};
+ghost use Rattle.std.specs.Prelude.{IfOk};
 ghost use Rattle.edition_checks.specs.Counts.{CountsOf};
+ghost use Rattle.edition_checks.specs.Given.{given_of};
 
 use anyhow::Result;
+use edition_checks::files::Given;
 use edition_checks::status::Totals;
 use edition_notes::notes::Notes;
 use edition_options::options::Options;
@@ -14,7 +16,6 @@ use edition_told::told::{Line, Report, SheetTold, lines_below, tell};
 use rules::Refusal;
 use serde_json::{Map, Value, put};
 use std::alloc::{AllocError, Global};
-use std::rt::Files;
 use std::str::from_utf8;
 
 // A number, or null.
@@ -185,15 +186,16 @@ fn report_line(alloc: Global, named: &Named, report: &Report) -> Result<String, 
     Ok(line)
 }
 
-/// Writes what is told of the files as one value, and says what is noted.
-pub fn check<R: Files + Print + Eprint + AllocGlobal>(
+/// Writes what is told of files as one value, and says what is noted; `named` knows whose names aren't shown as they were given.
+pub fn check<R: Print + Eprint + AllocGlobal>(
     rt: &R,
     named: &Named,
+    given: &[Given],
     options: Options,
 ) -> Result<Totals>
-    ensures { IfOk result (λ t. CountsOf options.entry.separate (map (λ n. n.now) named.now.names.now) t.sheets t.accepted) }
+    ensures { IfOk result (λ t. CountsOf options.entry.separate (given_of given.now) t.sheets t.accepted) }
 {
-    let report = tell(rt, named, options)?;
+    let report = tell(rt.alloc(), given, options)?;
     let line = report_line(rt.alloc(), named, &report)?;
     print_whole(rt, line.as_bytes())?;
     report.notes.tell(rt);

@@ -1,18 +1,19 @@
 //! An edition's report as a page of HTML: one file, with nothing fetched and no script. What comes from a file goes through `Html::text`.
 #![tactic(auto)]
 
-ghost use Rattle.std.specs.Prelude.{map, IfOk};
+ghost use Rattle.std.specs.Prelude.{IfOk};
 ghost use Rattle.edition_checks.specs.Counts.{CountsOf};
+ghost use Rattle.edition_checks.specs.Given.{given_of};
 
 use crate::Piece::{Count, Number, Raw, Text};
 use anyhow::{Context, Result};
+use edition_checks::files::Given;
 use edition_checks::status::Totals;
 use edition_html::put_text;
 use edition_notes::notes::Notes;
 use edition_options::options::Options;
 use edition_options::output::{PAGE, write_file};
 use edition_report::words::{put_amount, put_quantity, put_refused, put_total};
-use edition_told::files::Named;
 use edition_told::printing::print_whole;
 use edition_told::told::{Facts, Line, Report, SheetTold, lines_below, tell};
 use rules::Refusal;
@@ -439,16 +440,16 @@ fn last_line(alloc: Global, totals: Totals) -> Result<Vec<u8>, AllocError> {
     Ok(last)
 }
 
-/// Writes what is told of the files as a page into a file, prints the last line of the report, and says what is noted.
+/// Writes what is told of files as a page into a file, prints the last line of the report, and says what is noted.
 pub fn check<R: Files + Print + Eprint + AllocGlobal>(
     rt: &R,
-    named: &Named,
+    given: &[Given],
     options: Options,
     path: &str,
 ) -> Result<Totals>
-    ensures { IfOk result (λ t. CountsOf options.entry.separate (map (λ n. n.now) named.now.names.now) t.sheets t.accepted) }
+    ensures { IfOk result (λ t. CountsOf options.entry.separate (given_of given.now) t.sheets t.accepted) }
 {
-    let report = tell(rt, named, options)?;
+    let report = tell(rt.alloc(), given, options)?;
     write_page(rt, path, &report)?;
     print_whole(rt, &last_line(rt.alloc(), report.totals)?)?;
     report.notes.tell(rt);

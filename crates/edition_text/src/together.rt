@@ -1,6 +1,7 @@
 // An edition over one name table.
-ghost use Rattle.std.specs.Prelude.{map, IfOk};
+ghost use Rattle.std.specs.Prelude.{IfOk};
 ghost use Rattle.edition_checks.specs.Counts.{CountsTogether};
+ghost use Rattle.edition_checks.specs.Given.{given_of};
 
 use crate::beside::note;
 use crate::certificate::Certificate;
@@ -14,7 +15,6 @@ use edition_checks::tables::Tables;
 use edition_checks::together::report_on;
 use edition_checks::written::Written;
 use edition_options::options::Options;
-use edition_told::files::Named;
 use edition_told::listing::list;
 use std::io::Write;
 use std::rt::Files;
@@ -53,19 +53,18 @@ fn tell_beside<R: Files + Eprint + AllocGlobal, W: Write + Drop>(
     keep_and_note(rt, options, &files, tables)
 }
 
-/// Reads the files, reports on all, lists their names if that was asked for, and says what is noted. The sheets of the edition are counted, and those that are
-/// accepted.
-pub fn check<R: Files + Input + Print + Eprint + AllocGlobal>(
+/// Reports on files, lists their names if that was asked for, and says what is noted. The sheets of the edition that they are are counted, and those of them
+/// that are accepted.
+pub fn check<R: Files + Print + Eprint + AllocGlobal>(
     rt: &R,
-    named: &Named,
+    given: &[Given],
     options: Options,
 ) -> Result<Totals>
-    ensures { IfOk result (λ t. CountsTogether (map (λ n. n.now) named.now.names.now) t.sheets t.accepted) }
+    ensures { IfOk result (λ t. CountsTogether (given_of given.now) t.sheets t.accepted) }
 {
-    let given = named.read_all(rt)?;
     let mut out = output(rt)?;
-    let reported = report_on(rt.alloc(), &given, how_of(options), &mut out)?;
-    let noted = tell_beside(rt, options, &given, &reported.tables, &mut out)?;
+    let reported = report_on(rt.alloc(), given, how_of(options), &mut out)?;
+    let noted = tell_beside(rt, options, given, &reported.tables, &mut out)?;
     Ok(Totals {
         sheets: reported.counts.sheets,
         accepted: reported.counts.accepted,

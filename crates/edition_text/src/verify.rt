@@ -1,16 +1,17 @@
 // Sheets judged by a certificate, with nothing solved: a line for each.
-ghost use Rattle.std.specs.Prelude.{map, IfOk};
+ghost use Rattle.std.specs.Prelude.{IfOk};
 ghost use Rattle.edition_checks.specs.Counts.{CountsCertified};
+ghost use Rattle.edition_checks.specs.Given.{given_of};
 
 use crate::output::output;
 use anyhow::{Context, Result};
 use edition_certificate_file::{Entry, Fault, read_certificate};
 use edition_checks::by_certificate::verify_on;
+use edition_checks::files::Given;
 use edition_checks::status::Totals;
 use edition_checks::written::Written;
 use edition_report::shown::put_shown;
 use edition_report::words::put_amount;
-use edition_told::files::Named;
 use filling::fill_front;
 use rules::Unseen;
 use std::alloc::AllocError;
@@ -119,17 +120,12 @@ fn entries_in<R: Files + AllocGlobal, W: Write + Drop>(
     }
 }
 
-/// Judges the files with these names by the certificate in the file at `path`; where there is none, no sheet is verified. Counted are the files and what else
-/// the certificate keeps, and the files that are verified.
-pub fn check<R: Files + Input + Print + AllocGlobal>(
-    rt: &R,
-    path: &str,
-    named: &Named,
-) -> Result<Totals>
-    ensures { IfOk result (λ t. CountsCertified (map (λ n. n.now) named.now.names.now) t.sheets t.accepted) }
+/// Judges files by the certificate in the file at `path`; where there is none, no sheet is verified. Counted are the files and what else the certificate
+/// keeps, and the files that are verified.
+pub fn check<R: Files + Print + AllocGlobal>(rt: &R, path: &str, given: &[Given]) -> Result<Totals>
+    ensures { IfOk result (λ t. CountsCertified (given_of given.now) t.sheets t.accepted) }
 {
     let mut out = output(rt)?;
     let entries = entries_in(rt, path, &mut out)?;
-    let given = named.read_all(rt)?;
-    verify_on(rt.alloc(), &entries, &given, &mut out)
+    verify_on(rt.alloc(), &entries, given, &mut out)
 }

@@ -1,21 +1,19 @@
 // Sheets told one after another, and counted.
-ghost use Rattle.std.specs.Prelude.{◌≡◌, map, List, [], ◌∷◌, IfOk};
+ghost use Rattle.std.specs.Prelude.{◌≡◌, List, IfOk};
 ghost use Rattle.rules.specs.Names.{table_of};
 ghost use Rattle.rules.specs.Reports.{Page as PageRead, acceptedIn, findingOf, isAccepted};
-ghost use Rattle.edition.specs.Files.{HoldsAll, IsSheet};
+ghost use Rattle.edition.specs.Files.{HoldsAll, IsSheet, files_of};
 ghost use Rattle.edition.specs.Report.{Counted};
-ghost use Rattle.edition_checks.specs.Counts.{CountsApart, CountsTogether};
-ghost use Rattle.edition_checks.specs.Given.{editionOf};
+ghost use Rattle.edition_checks.specs.Counts.{CountsApart, CountsTogether, alone, editionFrom};
+ghost use Rattle.edition_checks.specs.Given.{given_of, text_of};
 
-use crate::files::Named;
 use crate::listing::new_names;
 use crate::told::{Facts, Line, Report, SheetTold};
 use anyhow::Result;
-use edition::model::{Room, Sheet};
+use edition::model::{File, Room, Sheet};
 use edition::telling::tell_sheet;
 use edition::why::conflict_in;
 use edition_checks::files::{Given, lend};
-use edition_checks::front::Front;
 use edition_checks::status::Totals;
 use edition_checks::tables::Tables;
 use edition_notes::notes::Notes;
@@ -25,7 +23,6 @@ use edition_report::pages::Outcome;
 use names::tables::NameTable;
 use rules::{Refusal, Shown};
 use std::alloc::{AllocError, Global};
-use std::rt::Files;
 use text_spell::put_name;
 
 /// What is told so far, and how it is told.
@@ -61,16 +58,13 @@ impl Telling {
         }
     }
 
-    /// Tells of files each over a name table of its own: each is let go before the next is read.
-    pub fn apart<R: Files + AllocGlobal>(&mut self, rt: &R, named: &Named) -> Result<Totals>
-        ensures { IfOk result (λ t. CountsApart (map (λ n. n.now) named.now.names.now) t.sheets t.accepted) }
+    /// Tells of files each over a name table of its own.
+    pub fn apart(&mut self, alloc: Global, given: &[Given]) -> Result<Totals>
+        ensures { IfOk result (λ t. CountsApart (given_of given.now) t.sheets t.accepted) }
     {
-        let alloc = rt.alloc();
-        let mut front = Front::new(alloc)?;
         let mut totals = Totals::NONE;
-        for name in named.names {
-            let given = named.read(rt, name, &mut front)?;
-            let one = self.one(alloc, given)?;
+        for file in given {
+            let one = self.one(alloc, file)?;
             totals = totals.and(one.accepted, one.names, 0);
         }
         totals.notes = self.notes.count;
@@ -78,30 +72,29 @@ impl Telling {
     }
 
     // Tells of a file over a name table of its own.
-    fn one(&mut self, alloc: Global, given: Given) -> Result<Totals>
-        ensures { IfOk result (λ t. Counted t.sheets t.accepted (editionOf (given.entry ∷ []))) }
+    fn one(&mut self, alloc: Global, given: &Given) -> Result<Totals>
+        ensures { IfOk result (λ t. Counted t.sheets t.accepted (alone (given.now.name.now, text_of given.now))) }
     {
-        self.add(alloc, &[given])
+        self.add(alloc, &[given.file()])
     }
 
     /// Tells of files over one name table.
-    pub fn together<R: Files + AllocGlobal>(&mut self, rt: &R, named: &Named) -> Result<Totals>
-        ensures { IfOk result (λ t. CountsTogether (map (λ n. n.now) named.now.names.now) t.sheets t.accepted) }
+    pub fn together(&mut self, alloc: Global, given: &[Given]) -> Result<Totals>
+        ensures { IfOk result (λ t. CountsTogether (given_of given.now) t.sheets t.accepted) }
     {
-        let given = named.read_all(rt)?;
-        self.add(rt.alloc(), &given)
+        let files = lend(alloc, given)?;
+        self.add(alloc, &files)
     }
 
     // Tells of files over one name table: what they come to, with all notes so far.
-    fn add(&mut self, alloc: Global, given: &[Given]) -> Result<Totals>
-        ensures { IfOk result (λ t. Counted t.sheets t.accepted (editionOf given.now)) }
+    fn add(&mut self, alloc: Global, files: &[File]) -> Result<Totals>
+        ensures { IfOk result (λ t. Counted t.sheets t.accepted (editionFrom (files_of files.now))) }
     {
-        let files = lend(alloc, given)?;
         let mut tables = Tables::new(alloc)?;
-        let sheets = tables.read(alloc, &files, &mut self.room)?;
+        let sheets = tables.read(alloc, files, &mut self.room)?;
         let names = tables.names()?;
         let accepted = self.add_sheets(names, &sheets)?;
-        self.notes.add(names, &files)?;
+        self.notes.add(names, files)?;
         Ok(Totals {
             sheets: sheets.len(),
             accepted,

@@ -1,11 +1,12 @@
 // What is told of each sheet, for whoever shows it in another form than lines.
 ghost use Rattle.std.specs.Prelude.{◌≡◌, ◌++◌, map, IfOk, OnOk};
 ghost use Rattle.edition_checks.specs.Counts.{CountsOf};
+ghost use Rattle.edition_checks.specs.Given.{given_of};
 ghost use Rattle.edition_told.specs.Below.{linesBelow, rowOf};
 
-use crate::files::Named;
 use crate::telling::Telling;
 use anyhow::Result;
+use edition_checks::files::Given;
 use edition_checks::status::Totals;
 use edition_notes::notes::Notes;
 use edition_options::options::Options;
@@ -13,7 +14,6 @@ use edition_report::lines::constraint_line;
 use edition_report::pages::Outcome;
 use rules::Refusal;
 use std::alloc::{AllocError, Global};
-use std::rt::Files;
 
 /// What is told of an outcome beside its page: in one word, the refusal's number, line and column, and completed rounds.
 #[derive(Clone, Copy)]
@@ -123,17 +123,15 @@ fn push_below<'p>(lines: &mut Vec<&'p [u8]>, line: &'p [u8]) -> Result<(), Alloc
     Ok(())
 }
 
-/// Reads the files and tells of them: of each by itself, or of all together. What they come to are the counts of an edition, or of one for each file, whose
-/// files have these names.
-pub fn tell<R: Files + AllocGlobal>(rt: &R, named: &Named, options: Options) -> Result<Report>
-    ensures { IfOk result
-        (λ r. CountsOf options.entry.separate (map (λ n. n.now) named.now.names.now) r.totals.sheets r.totals.accepted) }
+/// Tells of files: of each by itself, or of all together. What they come to are the counts of the edition that they are, or of one for each file.
+pub fn tell(alloc: Global, given: &[Given], options: Options) -> Result<Report>
+    ensures { IfOk result (λ r. CountsOf options.entry.separate (given_of given.now) r.totals.sheets r.totals.accepted) }
 {
-    let mut telling = Telling::new(rt.alloc(), options);
+    let mut telling = Telling::new(alloc, options);
     let totals = if options.separate {
-        telling.apart(rt, named)?
+        telling.apart(alloc, given)?
     } else {
-        telling.together(rt, named)?
+        telling.together(alloc, given)?
     };
     Ok(telling.report(totals))
 }

@@ -1,10 +1,10 @@
 -- File after file is counted as an edition by itself.
 use Rattle.std.proofs.Common.{arith}
-use Rattle.edition_told.proofs.Counting.{one-more-apart}
+use Rattle.edition_checks.proofs.Counting.{given-more}
 use Rattle.edition_told.proofs.telling.Telling.apart.Goals as goal
 
-pub loop-name-preserved : goal.loop-name-preserved
-loop-name-preserved g c =
+pub loop-file-preserved : goal.loop-file-preserved
+loop-file-preserved c =
     let counts = c.and-totals.ensures in
-    one-more-apart (λ n. n.now) c.args.named.now.names.now c.loop-name.name-index c.loop-name.invariant c.loop-name-test.true (omega arith)
-    c.in_ok-given.given _ c.in_ok-given.ensures c.in_ok-one.ensures counts.sheets counts.accepted
+    given-more c.args.given.now c.loop-file.file-index c.file-item.result _ c.file-item.is c.loop-file-test.true (omega arith) c.loop-file.invariant
+    c.in_ok-one.ensures.accepted-count counts.sheets counts.accepted
