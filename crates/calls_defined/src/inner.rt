@@ -7,9 +7,9 @@ ghost use Rattle.products.specs.Told.{valueIn, given};
 ghost use Rattle.calls_defined.specs.Factors.{exponentAt, factorAt, productAt, factorWords};
 
 use exponents::Exponent;
+use names::inner::word_at;
 use products::{Factor, Product};
 use records::inner::put;
-use names::inner::word_at;
 use rules::FACTORS;
 
 /// Numerator and denominator from a place on.
